@@ -7,3 +7,4 @@ pub mod KeeperStateLemmas
 pub mod GateLemmas
 pub mod PointsLemmas
 pub mod HistoriesLemmas
+pub mod KeeperHistoriesLemmas

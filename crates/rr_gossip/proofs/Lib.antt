@@ -14,6 +14,8 @@ pub mod StreamLemmas
 pub mod StepLemmas
 pub mod ReadLemmas
 pub mod SendLemmas
+pub mod HeardLemmas
 pub mod GivingLemmas
 pub mod OnceLemmas
+pub mod LastFrameLemmas
 pub mod PullLemmas

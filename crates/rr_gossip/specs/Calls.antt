@@ -1,6 +1,6 @@
 -- What a call that pulls or gives over streams has done once it returns: what was read and written, and when a stream
 -- is to blame.
-use Rattle.std.specs.Prelude.{◌≡◌, ◌≤◌, ◌<◌, ℕ, Bool, true, IsTrue, List, [], length, Option, Result, Err, OnOk, OnErr, IfErr}
+use Rattle.std.specs.Prelude.{◌≡◌, ◌≤◌, ◌<◌, ℕ, Bool, true, IsTrue, List, length, Option, Result, Err, OnOk, OnErr, IfErr}
 use Rattle.std.specs.Io.KnownBytes.{Appends, IsAtEnd}
 use Rattle.std.specs.List.{concat}
 use Rattle.rr_text.specs.Results.{GivesUnless}

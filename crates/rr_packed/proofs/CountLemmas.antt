@@ -20,7 +20,8 @@ use Rattle.rr_packed.specs.declared.reading.Source.{Source}
 use Rattle.rr_packed.specs.Sparse.{rank, item_in}
 use Rattle.rr_packed.specs.Readings.{entries_read}
 use Rattle.rr_packed.specs.Blocks.{items_in, entries_in_all}
-use Rattle.rr_packed.proofs.SparseLemmas.{rank_more, rank_le, rank_within, item_none, item_found, item_bit, one_of, place_none, place_set}
+use Rattle.rr_packed.proofs.RankLemmas.{rank_more, rank_le, rank_within}
+use Rattle.rr_packed.proofs.SparseLemmas.{item_none, item_found, item_bit, one_of, place_none, place_set}
 use Rattle.rr_packed.proofs.BlockLemmas.{items_by_entries, items_by_reading}
 
 no_more : (n : ℕ) → n + 0 ≡ n

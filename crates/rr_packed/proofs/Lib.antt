@@ -1,3 +1,4 @@
+pub mod RankLemmas
 pub mod SparseLemmas
 pub mod SlotLemmas
 pub mod BlockLemmas

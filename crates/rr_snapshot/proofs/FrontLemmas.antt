@@ -4,7 +4,7 @@ use Rattle.std.proofs.lemmas.List.{length-append}
 use Rattle.std.proofs.KnownBytes.{Consumes-nil, Consumes-trans}
 use Rattle.rr_io.specs.declared.counted.Counted.{Counted}
 use Rattle.rr_io.specs.Counted.{inner_of, HasRisen}
-use Rattle.rr_io.specs.Stream.{ConsumesSome, HasFailed, KeepsFailures, TakesAtMost}
+use Rattle.rr_io.specs.Stream.{ConsumesSome, TakesAtMost}
 use Rattle.rr_snapshot.specs.declared.fault.LoadFault.{LoadFault}
 use Rattle.rr_snapshot.specs.declared.fault.LoadFault.TheVariants.{ReadFailed}
 use Rattle.rr_snapshot.specs.Stream.{LoadsFrom}

@@ -1,4 +1,4 @@
-use Rattle.rr_desk.proofs.HistoriesLemmas as histories
+use Rattle.rr_desk.proofs.KeeperHistoriesLemmas as histories
 use Rattle.rr_desk.proofs.laws.keepers_have_histories.Goals as goal
 
 pub returns : goal.returns

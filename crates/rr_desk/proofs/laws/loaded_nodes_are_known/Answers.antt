@@ -1,4 +1,4 @@
-use Rattle.rr_desk.proofs.HistoriesLemmas as histories
+use Rattle.rr_desk.proofs.KeeperHistoriesLemmas as histories
 use Rattle.rr_desk.proofs.laws.loaded_nodes_are_known.Goals as goal
 
 pub returns : goal.returns

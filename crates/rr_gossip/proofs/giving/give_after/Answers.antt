@@ -4,7 +4,8 @@ use Rattle.rr_io.specs.Counted.{inner_of}
 use Rattle.rr_gossip.specs.declared.fault.GossipFault.TheVariants.{WriteFailed}
 use Rattle.rr_gossip.specs.declared.giver.Giver.{Giver}
 use Rattle.rr_gossip.specs.Giver.{giver_takes}
-use Rattle.rr_gossip.proofs.GivingLemmas.{failed_to_reply, gave, giver_fault}
+use Rattle.rr_gossip.proofs.GivingLemmas.{failed_to_reply, gave}
+use Rattle.rr_gossip.proofs.HeardLemmas.{giver_fault}
 use Rattle.rr_gossip.proofs.ReadLemmas.{stops_unwritten}
 use Rattle.rr_gossip.proofs.StepLemmas.{err_is}
 use Rattle.rr_gossip.proofs.giving.give_after.Goals as goal

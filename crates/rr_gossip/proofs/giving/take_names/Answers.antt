@@ -4,7 +4,7 @@ use Rattle.rr_io.specs.Counted.{inner_of}
 use Rattle.rr_gossip.specs.Giver.{AreFit}
 use Rattle.rr_gossip.specs.Stream.{WasRead}
 use Rattle.rr_gossip.specs.declared.fault.GossipFault.TheVariants.{Ended, Memory, ReadFailed}
-use Rattle.rr_gossip.proofs.GivingLemmas.{none_heard, frame_heard, giver_moves, giver_stops, hears_of_frame}
+use Rattle.rr_gossip.proofs.HeardLemmas.{none_heard, frame_heard, giver_moves, giver_stops, hears_of_frame}
 use Rattle.rr_gossip.proofs.ReadLemmas.{nothing_read, piece_more, frame_more, not_of_frame}
 use Rattle.rr_gossip.proofs.StepLemmas.{is_of_frame}
 use Rattle.rr_gossip.proofs.StreamLemmas.{breaks_off_length}

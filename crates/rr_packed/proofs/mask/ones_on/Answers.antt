@@ -1,5 +1,5 @@
 use Rattle.std.proofs.Common.{arith}
-use Rattle.rr_packed.proofs.SparseLemmas.{rank_on}
+use Rattle.rr_packed.proofs.RankLemmas.{rank_on}
 use Rattle.rr_packed.proofs.mask.ones_on.Goals as goal
 
 pub returns : goal.returns

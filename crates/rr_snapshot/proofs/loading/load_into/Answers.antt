@@ -1,4 +1,4 @@
-use Rattle.std.proofs.Common.{rules, arith, ℕ, ◌≡◌, ◌⊎◌, ◌∙◌, ◌||◌, Bool, true, false, Err, ap, sym, inl, inr}
+use Rattle.std.proofs.Common.{rules, ℕ, ◌≡◌, ◌⊎◌, ◌∙◌, ◌||◌, Bool, true, false, Err, ap, sym, inl, inr}
 use Rattle.std.specs.Prelude.{◌==◌}
 use Rattle.std.specs.FinMap.{empty}
 use Rattle.std.proofs.lemmas.Bool.{or_left, or_right, or_from}

@@ -6,7 +6,8 @@ use Rattle.std.proofs.lemmas.Nat.{or_lt, shr_le}
 use Rattle.std.proofs.lemmas.Nat.Bits.{bit_at_or, bit_at-zero, bit_at-trailing_zeros, bit_at_above}
 use Rattle.rr_packed.specs.declared.block.Block.{Block}
 use Rattle.rr_packed.specs.Blocks.{items_in}
-use Rattle.rr_packed.proofs.SparseLemmas.{bit_at_rest, place_none, item_none}
+use Rattle.rr_packed.proofs.RankLemmas.{bit_at_rest}
+use Rattle.rr_packed.proofs.SparseLemmas.{place_none, item_none}
 use Rattle.rr_packed.proofs.BlockLemmas.{items_none}
 use Rattle.rr_packed.proofs.block.Block.rows_on.Goals as goal
 

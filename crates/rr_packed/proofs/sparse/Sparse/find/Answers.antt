@@ -1,6 +1,6 @@
 use Rattle.std.proofs.Common.{rules, ◌≡◌, ◌<◌, ◌^◌, arith}
 use Rattle.std.specs.Int.{bit_at}
-use Rattle.rr_packed.proofs.SparseLemmas.{rank_within, bit_is_set}
+use Rattle.rr_packed.proofs.RankLemmas.{rank_within, bit_is_set}
 use Rattle.rr_packed.proofs.sparse.Sparse.find.Goals as goal
 
 pub returns-clause-within : goal.returns-clause-within

@@ -2,7 +2,8 @@ use Rattle.std.proofs.Common.{rules, ◌≡◌, ◌<◌, ◌≤◌, ◌+◌, ◌
 use Rattle.std.specs.Prelude.{bit_or, vec_len}
 use Rattle.std.proofs.lemmas.Nat.{or_lt, mod_below, pow_pos}
 use Rattle.rr_packed.specs.Sparse.{rank, item_at}
-use Rattle.rr_packed.proofs.SparseLemmas.{HasOneMore, more_by_or, none_tells, ones_more, item_insert}
+use Rattle.rr_packed.proofs.RankLemmas.{HasOneMore, more_by_or, ones_more}
+use Rattle.rr_packed.proofs.SparseLemmas.{none_tells, item_insert}
 use Rattle.rr_packed.proofs.sparse.Sparse.insert.Goals as goal
 
 pub invariant_of-self-2 : goal.invariant_of-self-2

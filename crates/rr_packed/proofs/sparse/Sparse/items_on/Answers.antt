@@ -1,5 +1,5 @@
 use Rattle.std.proofs.Common.{rules, ◌+◌, ◌<◌, ◌^◌, length, ap, arith}
-use Rattle.rr_packed.proofs.SparseLemmas.{rank_at_most}
+use Rattle.rr_packed.proofs.RankLemmas.{rank_at_most}
 use Rattle.rr_packed.proofs.sparse.Sparse.items_on.Goals as goal
 
 pub overflow_add-to : goal.overflow_add-to

@@ -1,5 +1,5 @@
 use Rattle.std.proofs.Common.{rules, ◌<◌, ◌^◌, arith}
-use Rattle.rr_packed.proofs.SparseLemmas.{rank_code, rank_at_most}
+use Rattle.rr_packed.proofs.RankLemmas.{rank_code, rank_at_most}
 use Rattle.rr_packed.proofs.sparse.Sparse.rank.Goals as goal
 
 pub returns-clause-rank : goal.returns-clause-rank

@@ -3,7 +3,8 @@ use Rattle.std.specs.Prelude.{bit_and, vec_len}
 use Rattle.std.specs.Int.{bit_not}
 use Rattle.std.proofs.lemmas.Nat.{and_le_l}
 use Rattle.rr_packed.specs.Sparse.{item_at}
-use Rattle.rr_packed.proofs.SparseLemmas.{HasOneMore, less_by_and, place_tells, place_none, item_absent, item_remove, ones_more}
+use Rattle.rr_packed.proofs.RankLemmas.{HasOneMore, less_by_and, ones_more}
+use Rattle.rr_packed.proofs.SparseLemmas.{place_tells, place_none, item_absent, item_remove}
 use Rattle.rr_packed.proofs.sparse.Sparse.remove.Goals as goal
 
 pub returns-in_default-clause-removed : goal.returns-in_default-clause-removed
