@@ -1,10 +1,8 @@
 -- What samples and points make of a keeper.
 use Rattle.std.specs.Prelude.{ℕ, ℤ, List, [], ◌∷◌}
-use Rattle.rr_point.specs.Key.{key_text}
 use Rattle.rr_point.specs.Point.{PointView}
 use Rattle.rr_cells.specs.declared.op.Op.TheVariants.{Put}
-use Rattle.rr_replica.specs.declared.fault.WriteFault.{WriteFault}
-use Rattle.rr_replica.specs.declared.fault.WriteFault.TheVariants as why
+use Rattle.rr_replica.specs.Writing.{all_put}
 use Rattle.rr_desk.specs.KeeperState.{KeeperState, with_pending}
 use Rattle.rr_desk.specs.declared.samples.KeyedValue.{KeyedValue}
 
@@ -15,8 +13,7 @@ with_put k key time value = with_pending k (Put (record
 
 -- with a put of a sample of each of these fields pending, in order
 abbrev pub with_puts : KeeperState → PointView → ℤ → List (List ℕ × ℤ) → KeeperState
-with_puts k p time [] = k
-with_puts k p time (field ∷ fields) = with_puts (with_put k (key_text p field.0) time field.1) p time fields
+with_puts = all_put with_put
 
 -- a value of a series
 abbrev pub keyed_value : KeyedValue → List ℕ × ℤ
@@ -26,9 +23,3 @@ keyed_value v = (v.key, v.value)
 abbrev pub with_samples : KeeperState → ℤ → List (List ℕ × ℤ) → KeeperState
 with_samples k time [] = k
 with_samples k time (sample ∷ samples) = with_samples (with_put k sample.0 time sample.1) time samples
-
--- how many fields were put before a point was refused
-abbrev pub put_before : WriteFault → ℕ
-put_before why.AheadOfClock = 0
-put_before why.NumbersSpent = 0
-put_before (why.Memory put) = put

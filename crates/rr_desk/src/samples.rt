@@ -22,8 +22,8 @@ pub struct KeyedValue {
 }
 
 impl<A: Cells> Keeper<A> {
-    ghost use Rattle.rr_replica.specs.Writing.{is_ahead, lacks_numbers, PutsFields, WritesFields};
-    ghost use Rattle.rr_desk.specs.Points.{keyed_value, put_before, with_put, with_samples};
+    ghost use Rattle.rr_replica.specs.Writing.{is_ahead, lacks_numbers, put_before, PutsFields, WritesFields};
+    ghost use Rattle.rr_desk.specs.Points.{keyed_value, with_put, with_samples};
 
     /// Puts a sample of each value, in order, as [`Keeper::write`] puts those of a point whose
     /// fields have these keys, and answers how many.

@@ -6,18 +6,19 @@ use Rattle.std.specs.Result.{is_err}
 use Rattle.std.specs.List.{AllByRecursion}
 use Rattle.rr_point.specs.Key.{key_text}
 use Rattle.rr_point.specs.Point.{PointView}
-use Rattle.rr_cells.specs.ReplicaState.{ReplicaState, with_put}
-use Rattle.rr_replica.specs.Writing.{with_fields, WritingGoesOn}
+use Rattle.rr_cells.specs.ReplicaState.{with_put}
+use Rattle.rr_replica.specs.Writing.{all_put, with_fields, WritingGoesOn}
 
 -- fields and then others
-pub with_fields-append : (h : ReplicaState) (p : PointView) (time : ℤ) (fields others : List (List ℕ × ℤ))
-    → with_fields h p time (fields ++ others) ≡ with_fields (with_fields h p time fields) p time others
-with_fields-append h p time [] others = refl
-with_fields-append h p time (field ∷ fields) others =
-    with_fields-append (with_put h (key_text p field.0) time field.1) p time fields others
+pub all_put-append : {S : Type 0} (put : S → List ℕ → ℤ → ℤ → S) (s : S) (p : PointView) (time : ℤ)
+    (fields others : List (List ℕ × ℤ))
+    → all_put put s p time (fields ++ others) ≡ all_put put (all_put put s p time fields) p time others
+all_put-append put s p time [] others = refl
+all_put-append put s p time (field ∷ fields) others =
+    all_put-append put (put s (key_text p field.0) time field.1) p time fields others
 
 pub writing_goes_on : WritingGoesOn
-writing_goes_on h p time fields n = sym (with_fields-append h p time (take n fields) (drop n fields))
+writing_goes_on h p time fields n = sym (all_put-append with_put h p time (take n fields) (drop n fields))
     ∙ ap (with_fields h p time) (take-append-drop n fields)
 
 -- what holds of each field of a point holds of the one at a place

@@ -1,17 +1,20 @@
 -- What a point makes of a replica.
-use Rattle.std.specs.Prelude.{◌≡◌, ℕ, ◌+◌, ◌-◌, ◌<◌, ◌≤◌, ◌↔◌, ℤ, pos, ◌+ℤ◌, Bool, false, int_lt, nat_lt, List, [], ◌∷◌, take, drop, Option, None, Some, Result, Err, IfOk, IfErr, OnOk, IsTrue, IsFalse}
+use Rattle.std.specs.Prelude.{◌≡◌, ℕ, ◌+◌, ◌-◌, ◌<◌, ◌≤◌, ◌↔◌, ℤ, pos, ◌+ℤ◌, Bool, false, int_lt, nat_lt, List, [], ◌∷◌, take, drop, Option, None, Some, Result, Err, IfOk, IfErr, OnOk, IsTrue, IsFalse, unwrap_or}
 use Rattle.rr_text.specs.declared.limits.TheConstants.{MAX_FIELDS, MAX_NUMBER}
-use Rattle.rr_key.specs.Making.{making_fault}
-use Rattle.rr_point.specs.Key.{HasKeys, key_text, names_of}
+use Rattle.rr_point.specs.Key.{HasKeys, key_text}
 use Rattle.rr_point.specs.Point.{PointView}
 use Rattle.rr_replica.specs.declared.fault.WriteFault.{WriteFault}
 use Rattle.rr_replica.specs.declared.fault.WriteFault.TheVariants as why
 use Rattle.rr_cells.specs.ReplicaState.{ReplicaState, with_put}
 
--- with a sample of each of these fields put, in order
+-- a state with a sample of each of these fields put, in order
+abbrev pub all_put : {S : Type 0} → (S → List ℕ → ℤ → ℤ → S) → S → PointView → ℤ → List (List ℕ × ℤ) → S
+all_put put s p time [] = s
+all_put put s p time (field ∷ fields) = all_put put (put s (key_text p field.0) time field.1) p time fields
+
+-- a replica with these put
 abbrev pub with_fields : ReplicaState → PointView → ℤ → List (List ℕ × ℤ) → ReplicaState
-with_fields h p time [] = h
-with_fields h p time (field ∷ fields) = with_fields (with_put h (key_text p field.0) time field.1) p time fields
+with_fields = all_put with_put
 
 -- to put the first of some fields and then the rest is to put them all
 abbrev pub WritingGoesOn : Type 0
@@ -29,11 +32,15 @@ is_ahead (Some time) now (Some lead) = int_lt (now +ℤ pos lead) time
 abbrev pub lacks_numbers : ReplicaState → ℕ → Bool
 lacks_numbers h count = nat_lt (MAX_NUMBER + 1 - h.next) count
 
--- what a refused write leaves: the same, or, where memory ran out, the first fields put
-abbrev pub IsAfterRefusal : ReplicaState → ReplicaState → PointView → ℤ → WriteFault → Type 0
-IsAfterRefusal old new p time why.AheadOfClock = new ≡ old
-IsAfterRefusal old new p time why.NumbersSpent = new ≡ old
-IsAfterRefusal old new p time (why.Memory put) = new ≡ with_fields old p time (take put p.fields)
+-- how many fields were put before a point was refused
+abbrev pub put_before : WriteFault → ℕ
+put_before why.AheadOfClock = 0
+put_before why.NumbersSpent = 0
+put_before (why.Memory put) = put
+
+-- what a refused write leaves: the first fields put if memory ran out, else the same
+abbrev pub IsAfterRefusal : {S : Type 0} → (S → List ℕ → ℤ → ℤ → S) → S → S → PointView → ℤ → WriteFault → Type 0
+IsAfterRefusal put old new p time fault = new ≡ all_put put old p time (take (put_before fault) p.fields)
 
 -- so many fields were put, or memory ran out: this is then left, and the fault says how many were put
 pub record PutsFields {S : Type 0} (many : ℕ) (after new : S) (IsLeft : WriteFault → Type 0)
@@ -54,18 +61,15 @@ pub record WritesFields {S : Type 0} (is_late lacks : Bool) (many : ℕ) (after 
   pub refused : IfErr result IsLeft
   pub fields_left : (n : ℕ) → result ≡ Err (why.Memory n) → n < many
 
--- the fields of a point have keys, they are few, and for each there is a number
-pub record CanPutFields (h : ReplicaState) (p : PointView) (many : ℕ) : Type 0 where
+-- what a write makes of the fields of a point, so many, where `put` is what a sample makes of a state
+abbrev pub WritesPoint : {S : Type 0} → (S → ReplicaState) → (S → List ℕ → ℤ → ℤ → S) → S → S → PointView → ℕ → ℤ
+    → Option ℕ → Result ℕ WriteFault → Type 0
+WritesPoint replica put old new p many now lead result =
+    WritesFields (is_ahead p.time now lead) (lacks_numbers (replica old) many) many
+    (all_put put old p (unwrap_or p.time now) p.fields) new
+    (IsAfterRefusal put old new p (unwrap_or p.time now)) result
+
+-- the fields of a point have keys, and are few
+pub record CanPutFields (p : PointView) (many : ℕ) : Type 0 where
   pub keyed : HasKeys p
   pub few_fields : many ≤ MAX_FIELDS
-  pub numbers_left : IsFalse (lacks_numbers h many)
-
--- a field has a key, and there is a number for it
-pub record CanPutField (p : PointView) (name : List ℕ) (next : ℕ) : Type 0 where
-  pub keyed : making_fault (names_of p name) ≡ None
-  pub number_left : next ≤ MAX_NUMBER
-
--- memory ran out after the first fields
-abbrev pub IsMemoryAfter : ReplicaState → ReplicaState → PointView → ℤ → WriteFault → Type 0
-IsMemoryAfter old new p time fault = (put : ℕ) × (fault ≡ why.Memory put)
-    × (new ≡ with_fields old p time (take put p.fields))

@@ -38,4 +38,4 @@ pub use fault::{JoinFault, PutFault, WriteFault};
 pub use hint::Hint;
 pub use replica::Replica;
 pub use rr_cells::{Cell, CellRef, Op, Sample};
-pub use writing::is_ahead;
+pub use writing::{Sink, is_ahead, put_point};

@@ -2,8 +2,6 @@
 ghost use Rattle.std.specs.Prelude.{◌≡◌, ℕ, ◌<◌, All, [], length, take, get_or, slice_get, true, false, Some, Err, IfOk, IfErr, IsOk, OnOk, OnErr, MatchOption};
 ghost use mathlib.Core.List.{IsPrefix};
 ghost use Rattle.std.specs.FinMap as fin;
-ghost use Rattle.rr_point.specs.Key.{key_text};
-ghost use Rattle.rr_point.specs.Point.{point_view};
 ghost use Rattle.rr_cells.specs.CellBounds.{IsCellOf};
 ghost use Rattle.rr_cells.specs.Cells.{row_at, archive_cells};
 ghost use Rattle.rr_cells.specs.ReplicaState.{with_sample, with_put, IsReplicaState};
@@ -13,7 +11,7 @@ ghost use Rattle.rr_replica.specs.InMemory.{sample_of_reading, keyed_sample};
 ghost use Rattle.rr_cells.specs.Listing.{owned_cell};
 ghost use Rattle.rr_replica.specs.ReplicaWithRoom.{replica_state, HasRoomFor};
 ghost use Rattle.rr_replica.specs.Calls.{BecomesInRoom, IsNextReading, IsNextReadingOf, MakesReady, PutsNext};
-ghost use Rattle.rr_replica.specs.Writing.{lacks_numbers, CanPutField};
+ghost use Rattle.rr_replica.specs.Writing.{lacks_numbers};
 ghost use Rattle.rr_replica.specs.Becomes.{Becomes};
 
 use crate::copying::copy_series;
@@ -27,12 +25,10 @@ use crate::series::SeriesMap;
 use rr_archive::{Archive, Cells, Entry};
 use rr_cells::{Cell, Op};
 use rr_key::SeriesKey;
-use rr_point::{Field, Point};
 use rr_schema::{Origin, Schema};
 use rr_text::limits::MAX_NUMBER;
 use std::alloc::{AllocError, Global};
 use std::marker::Model;
-use std::mem::replace;
 
 /// All series of one host, seen as one map of cells: what each origin contributes to each slot of
 /// each archive of each key.
@@ -41,13 +37,13 @@ use std::mem::replace;
 /// all times, and their number is bounded by the keys, rows and origins, whatever was written.
 #[derive(Drop)]
 pub struct Replica<A: Cells> {
-    alloc: Global,
+    pub(crate) alloc: Global,
     schema: Schema,
     origin: Origin,
     next: u64,
     pub(crate) series: SeriesMap<A>,
     /// Where key texts of points are written, one over the other.
-    text: Vec<u8>,
+    pub(crate) text: Vec<u8>,
 }
 
 impl<A: Cells> Model for Replica<A> {
@@ -313,29 +309,6 @@ impl<A: Cells> Replica<A> {
         ensures { result ≡ lacks_numbers (replica_state self.now) count }
     {
         MAX_NUMBER + 1 - self.next < count as u64
-    }
-
-    /// Puts the sample of a field of a point.
-    pub(crate) fn write_field(
-        &mut self,
-        point: &Point<'_>,
-        time: i64,
-        field: &Field<'_>,
-    ) -> Result<(), AllocError>
-        requires { CanPutField (point_view point.now) field.now.key.now self.old.next }
-        ensures state { Becomes (replica_state self.old)
-            (with_put (replica_state self.old) (key_text (point_view point.now) field.now.key.now)
-            time field.now.value) (replica_state self.new) result }
-    {
-        let mut text = replace(&mut self.text, Vec::new(self.alloc));
-        point.write_key(self.alloc, &mut text, field.key)?;
-        let key = SeriesKey::from_vec(self.alloc, text);
-        let put = self.put(&key, time, field.value);
-        self.text = key.into_vec();
-        match put {
-            Ok(_) => Ok(()),
-            Err(_) => Err(AllocError),
-        }
     }
 }
 

@@ -97,7 +97,7 @@ module _ (old new : ReplicaState) (clock : ℤ) (lead : Option ℕ) (p : PointVi
       ]
 
   pub point_refused : (fault : WriteFault) (stop : Stop) → IsStopOfWrite fault stop
-      → IsAfterRefusal old new p (unwrap_or p.time clock) fault
+      → IsAfterRefusal with_put old new p (unwrap_or p.time clock) fault
       → (fault ≡ why.AheadOfClock → IsTrue (is_ahead p.time clock lead))
       → (fault ≡ why.NumbersSpent → IsFalse (is_ahead p.time clock lead) × IsTrue (lacks_numbers old count))
       → Writes old new (Err stop) (samples_of_point (node_of old) clock lead p)
