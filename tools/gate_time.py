@@ -8,7 +8,8 @@ to half a second of each command is missed.
 
 Processor time is no fixed measure: a processor is slower while its neighbours work, which on a virtual machine
 may be those of others. So a fixed piece of work is timed now and then, and its shortest, median and longest
-times are printed beside the table.
+times are printed beside the table, with the minutes that the gate would have taken had it always been as fast as in
+the median of an idle hour.
 """
 
 import argparse
@@ -34,6 +35,10 @@ INTERVAL = 0.5
 
 # Readings between two timings of the fixed piece of work.
 BETWEEN = 60
+
+# Seconds that the fixed piece of work takes where nothing else runs: the median of the hour in which a gate took 140
+# minutes.
+IDLE = 0.22
 
 
 def fixed_work():
@@ -77,6 +82,9 @@ class Times:
                 # It has ended.
                 continue
 
+    def total(self):
+        return sum(self.ticks.values()) / TICKS
+
     def seconds(self):
         sums = collections.Counter()
         for process, ticks in self.ticks.items():
@@ -111,9 +119,10 @@ PAGE = """\
 # What the gate cost
 
 Seconds of processor time of `rt ci`, from nothing, as `tools/gate_time.py` wrote them on {day}: {minutes:.0f} minutes of
-processor time in {taken:.0f} on {processors} processors, of {commit}. A fixed piece of work, timed now and then, took from
-{least:.2f} to {most:.2f} seconds, in the median {median:.2f}: how much slower the processors were while others used them.
-The row `others` is what names no crate.
+processor time in {taken:.0f} on {processors} processors, with {jobs} checks beside each other, of {commit}. A fixed
+piece of work, timed now and then, took from {least:.2f} to {most:.2f} seconds, in the median {median:.2f}: how much
+slower the processors were while others used them. Each half minute scaled to {idle:.2f}, that of an idle machine, these
+are {scaled:.0f} minutes. The row `others` is what names no crate.
 
 {table}
 The gate's last line: {last}.
@@ -134,12 +143,16 @@ def main():
             run = subprocess.Popen(gate(args.keep), cwd=clone, stdout=output, stderr=subprocess.STDOUT, start_new_session=True)
             times = Times(run.pid)
             works = [fixed_work()]
+            before = scaled = 0
             for reading in itertools.count(1):
-                if run.poll() is not None:
-                    break
+                ended = run.poll() is not None
                 times.read()
-                if reading % BETWEEN == 0:
+                if ended or reading % BETWEEN == 0:
                     works.append(fixed_work())
+                    scaled += (times.total() - before) * IDLE / works[-1]
+                    before = times.total()
+                if ended:
+                    break
                 time.sleep(INTERVAL)
         sums = times.seconds()
         commit = subprocess.run(["git", "rev-parse", "--short", "HEAD"], cwd=clone, capture_output=True, text=True)
@@ -148,6 +161,9 @@ def main():
             minutes=sum(sums.values()) / 60,
             taken=(time.monotonic() - began) / 60,
             processors=len(os.sched_getaffinity(0)),
+            jobs=os.environ.get("RT_JOBS", "as many as these allow"),
+            idle=IDLE,
+            scaled=scaled / 60,
             commit=commit.stdout.strip(),
             least=min(works),
             median=statistics.median(works),
