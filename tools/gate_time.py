@@ -8,8 +8,8 @@ to half a second of each command is missed.
 
 Processor time is no fixed measure: a processor is slower while its neighbours work, which on a virtual machine
 may be those of others. So a fixed piece of work is timed now and then, and its shortest, median and longest
-times are printed beside the table, with the minutes that the gate would have taken had it always been as fast as in
-the median of an idle hour.
+times are printed beside the table, with the minutes that the gate would have taken had that piece always taken what
+it took in the fastest reading so far.
 """
 
 import argparse
@@ -36,9 +36,8 @@ INTERVAL = 0.5
 # Readings between two timings of the fixed piece of work.
 BETWEEN = 60
 
-# Seconds that the fixed piece of work takes where nothing else runs: the median of the hour in which a gate took 140
-# minutes.
-IDLE = 0.22
+# The median of the fixed piece of work, in seconds, in the fastest reading so far, which was of 140 minutes.
+FASTEST = 0.22
 
 
 def fixed_work():
@@ -121,8 +120,8 @@ PAGE = """\
 Seconds of processor time of `rt ci`, from nothing, as `tools/gate_time.py` wrote them on {day}: {minutes:.0f} minutes of
 processor time in {taken:.0f} on {processors} processors, with {jobs} checks beside each other, of {commit}. A fixed
 piece of work, timed now and then, took from {least:.2f} to {most:.2f} seconds, in the median {median:.2f}: how much
-slower the processors were while others used them. Each half minute scaled to {idle:.2f}, that of an idle machine, these
-are {scaled:.0f} minutes. The row `others` is what names no crate.
+slower the processors were while others used them. Each half minute scaled to {fastest:.2f}, the median of the fastest
+reading so far, these are {scaled:.0f} minutes. The row `others` is what names no crate.
 
 {table}
 The gate's last line: {last}.
@@ -149,7 +148,7 @@ def main():
                 times.read()
                 if ended or reading % BETWEEN == 0:
                     works.append(fixed_work())
-                    scaled += (times.total() - before) * IDLE / works[-1]
+                    scaled += (times.total() - before) * FASTEST / works[-1]
                     before = times.total()
                 if ended:
                     break
@@ -162,7 +161,7 @@ def main():
             taken=(time.monotonic() - began) / 60,
             processors=len(os.sched_getaffinity(0)),
             jobs=os.environ.get("RT_JOBS", "as many as these allow"),
-            idle=IDLE,
+            fastest=FASTEST,
             scaled=scaled / 60,
             commit=commit.stdout.strip(),
             least=min(works),
