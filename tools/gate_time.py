@@ -160,7 +160,7 @@ def main():
             minutes=sum(sums.values()) / 60,
             taken=(time.monotonic() - began) / 60,
             processors=len(os.sched_getaffinity(0)),
-            jobs=os.environ.get("RT_JOBS", "as many as these allow"),
+            jobs=os.environ.get("RT_JOBS", "several"),
             fastest=FASTEST,
             scaled=scaled / 60,
             commit=commit.stdout.strip(),

@@ -48,7 +48,7 @@ request_of_words s bytes = do
 abbrev pub request_view : Request → text.Request
 request_view q = record { key = q.key; function = q.cf; archive = q.archive; first = q.first; rows = q.rows }
 
--- the slot in which a second falls; its number is no farther from 0 than that of the second
+-- the slot in which a second falls, whose number is at most as far from 0 as the second
 pub record IsFirstSlot (second : ℤ) (span : ℕ) (slot : ℤ) : Type 0 where
   pub value : slot ≡ int_div_euclid second (pos span)
   pub slot_nearer : unsigned_abs slot ≤ unsigned_abs second

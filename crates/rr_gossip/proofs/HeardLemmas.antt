@@ -232,7 +232,7 @@ frame_heard m s g q r frames frame is_last before takes =
     ap (giver_after m s g) (contents_more frames frame)
     ∙ one_more_heard m s g q r (contents frames) (drop 4 frame) is_last before takes
 
--- a frame that a giver refuses, or for which there is no memory
+-- a frame at which a giver stops: it refuses the frame, or memory runs out
 pub giver_stops : (m : Cells) (s : Layout) (g : Giver) (frame : List ℕ) (fault : GossipFault) → IsFrame frame
     → (fault ≡ why.Memory) ⊎ (giver_takes m s g (drop 4 frame) ≡ Err fault) → IsRefused (giver_takes m s g) frame fault
 giver_stops m s g frame fault whole cause = record { frame = whole; why = cause }

@@ -7,12 +7,12 @@ use Rattle.rr_replica.specs.declared.fault.WriteFault.{WriteFault}
 use Rattle.rr_replica.specs.declared.fault.WriteFault.TheVariants as why
 use Rattle.rr_cells.specs.ReplicaState.{ReplicaState, with_put}
 
--- a state with a sample of each of these fields put, in order
+-- a state with a sample of each of these fields put, in order, if `put` says what one sample makes of a state
 abbrev pub all_put : {S : Type 0} → (S → List ℕ → ℤ → ℤ → S) → S → PointView → ℤ → List (List ℕ × ℤ) → S
 all_put put s p time [] = s
 all_put put s p time (field ∷ fields) = all_put put (put s (key_text p field.0) time field.1) p time fields
 
--- a replica with these put
+-- a replica with a sample of each of these fields put, in order
 abbrev pub with_fields : ReplicaState → PointView → ℤ → List (List ℕ × ℤ) → ReplicaState
 with_fields = all_put with_put
 
@@ -61,7 +61,8 @@ pub record WritesFields {S : Type 0} (is_late lacks : Bool) (many : ℕ) (after 
   pub refused : IfErr result IsLeft
   pub fields_left : (n : ℕ) → result ≡ Err (why.Memory n) → n < many
 
--- what a write makes of the fields of a point, so many, where `put` is what a sample makes of a state
+-- what a write of a point with so many fields makes of a state, if `put` says what one sample makes of it, and
+-- `replica` which replica it stands for
 abbrev pub WritesPoint : {S : Type 0} → (S → ReplicaState) → (S → List ℕ → ℤ → ℤ → S) → S → S → PointView → ℕ → ℤ
     → Option ℕ → Result ℕ WriteFault → Type 0
 WritesPoint replica put old new p many now lead result =

@@ -90,8 +90,9 @@ impl<A: Cells> Replica<A> {
     }
 }
 
-/// Puts a sample of each field of a point, as [`Replica::write`] does. Keys are written in the
-/// memory of `text`, which keeps none of them.
+/// Puts a sample of each field of a point, with the answers, refusals and cost of
+/// [`Replica::write`]. Keys are written over `text`, whose memory is used again; what is left in it
+/// has no meaning.
 pub fn put_point<S: Sink>(
     sink: &mut S,
     text: &mut Vec<u8>,
