@@ -56,3 +56,6 @@ returns c =
       λ t. c.loop-tag.invariant.same.0 (last.1 (c.is_last.ensures.0 t)),
       λ tail. c.is_last.ensures.1 (last.0 (c.loop-tag.invariant.same.1 tail)),
     )
+
+pub loop-tag-init : goal.loop-tag-init
+loop-tag-init c = record { few = omega arith; same = (λ t. t, λ t. t) }
