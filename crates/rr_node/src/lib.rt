@@ -42,7 +42,6 @@ mod rules;
 mod save_file;
 mod saving;
 mod seat;
-mod seats;
 mod shelf;
 mod tally;
 
@@ -68,5 +67,4 @@ pub use rr_host::{
 };
 pub use save_file::SaveFile;
 pub use seat::{Seat, serve_seat};
-pub use seats::TcpSeats;
 pub use shelf::{Opening, Shelf};

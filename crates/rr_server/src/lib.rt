@@ -10,18 +10,22 @@
 //! the process, its files, its network and its clock. Nothing is known of these, so no function
 //! here has a clause: what the text and the bytes mean is in the contracts of
 //! [`Config::from_toml`](rr_config::Config::from_toml) and [`load`](rr_snapshot::load), and what a
-//! node does in that of [`serve_node`](rr_node::serve_node).
+//! node does in that of [`serve_node`](rr_node::serve_node), which is handed [`TcpSeats`]. What a
+//! node has besides that is asked over HTTP stands in `front`.
 #![tactic(auto)]
 
 mod about;
 mod files;
+mod front;
 mod greeting;
 mod listeners;
 mod places;
 mod plain;
 mod program;
+mod seats;
 mod server;
 mod tools;
 mod web;
 
 pub use program::run;
+pub use seats::TcpSeats;

@@ -1,10 +1,10 @@
 //! The seats of a node that is asked over HTTP too.
 
 use crate::about::about;
+use crate::front::{Answered, Desk, Door, Place, Queue, WebSeat, WebSeats};
 use crate::listeners::{Listeners, Signals};
 use rr_config::{Config, Http};
 use rr_desk::Reader;
-use rr_front::{Answered, Desk, Door, Place, Queue, WebSeat, WebSeats};
 use rr_node::{Board, HaltFlag, Listening, OpenGate, Seat};
 use rr_packed::PackedArchive;
 use rr_schema::Origin;

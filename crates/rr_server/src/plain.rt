@@ -1,11 +1,12 @@
 //! A node at work whose keeper takes lines where they come.
 
 use crate::listeners::{Listeners, Signals};
+use crate::seats::TcpSeats;
 use crate::server::OUT_OF_MEMORY;
 use crate::tools::Tools;
 use rr_config::Config;
 use rr_desk::{Keeper, Reader};
-use rr_node::{Flag, HaltFlag, Listening, OpenGate, Seat, TcpSeats, serve_node};
+use rr_node::{Flag, HaltFlag, Listening, OpenGate, Seat, serve_node};
 use rr_packed::PackedArchive;
 use rr_process::Ending;
 use std::alloc::{AllocError, Global};

@@ -1,12 +1,12 @@
 //! A node at work that is asked over HTTP too.
 
+use crate::front::{Kept, Queued, WebSeats, serve_web_node};
 use crate::listeners::{Listeners, Signals};
 use crate::places::{Shared, seats};
 use crate::server::{OUT_OF_MEMORY, Server};
 use crate::tools::{Parts, Tools};
 use rr_config::{Config, Http};
 use rr_desk::{Keeper, Reader};
-use rr_front::{Kept, Queued, WebSeats, serve_web_node};
 use rr_node::{Flag, HaltFlag, SaveNews};
 use rr_packed::PackedArchive;
 use rr_process::Ending;

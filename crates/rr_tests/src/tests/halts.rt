@@ -6,9 +6,10 @@ use rr_archive::PlainArchive;
 use rr_desk::{Keeper, Reader, open};
 use rr_fakes::replicas::minutes;
 use rr_node::{
-    Calling, Config, FileShelf, HaltFlag, Listening, Moments, OpenGate, Seat, TcpSeats, serve_node,
+    Calling, Config, FileShelf, HaltFlag, Listening, Moments, OpenGate, Seat, serve_node,
 };
 use rr_packed::PackedArchive;
+use rr_server::TcpSeats;
 use std::alloc::Global;
 use std::io::Write;
 use std::net::{Net, SocketAddr, TcpListener, TcpStream};

@@ -1,10 +1,10 @@
 //! The desk at which requests are answered.
 
-use crate::answered::Answered;
-use crate::body::{Body, LineAnswers};
-use crate::listing::list_keys;
-use crate::response::{fill, fill_failed};
-use crate::visits::Queue;
+use super::answered::Answered;
+use super::body::{Body, LineAnswers};
+use super::listing::list_keys;
+use super::response::{fill, fill_failed};
+use super::visits::Queue;
 use bytes::Bytes;
 use http::{Request, header};
 use http_server::{Response, Service};

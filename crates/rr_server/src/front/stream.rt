@@ -2,7 +2,7 @@
 
 ghost use Rattle.std.specs.Prelude.{◌≡◌, ◌+◌, ◌≤◌, length};
 
-use crate::body::LineAnswers;
+use super::body::LineAnswers;
 use rr_host::Half;
 use rr_turns::Slip;
 use std::alloc::{AllocError, Global};

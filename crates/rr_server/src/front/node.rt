@@ -2,7 +2,7 @@
 
 ghost use Rattle.std.specs.Thread.{IsSync};
 
-use crate::place::WebSeats;
+use super::place::WebSeats;
 use rr_archive::Cells;
 use rr_config::Config;
 use rr_desk::Keeper;
@@ -14,7 +14,7 @@ use std::thread::{Threads, join_mut};
 use std::time;
 
 /// Serves as [`serve_node`](rr_node::serve_node) does, with seats that put bodies and connections
-/// into the queue which the keeper takes its visits from ([`Queued`](crate::Queued)). It ends when the flag of the node
+/// into the queue which the keeper takes its visits from ([`Queued`](super::Queued)). It ends when the flag of the node
 /// is raised, as where memory runs out on one of its threads, which is `Memory`; there is no other
 /// fault.
 pub fn serve_web_node<

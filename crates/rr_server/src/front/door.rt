@@ -1,6 +1,6 @@
 //! The door by which connections for lines come.
 
-use crate::visits::Queue;
+use super::visits::Queue;
 use rr_host::{Accepted, HaltFlag, Listening};
 use std::sync::Wait;
 use std::time::{Clock, Duration};

@@ -1,9 +1,6 @@
 //! Seats over TCP.
 
-use crate::gates::OpenGate;
-use crate::node::Seats;
-use crate::seat::{Seat, serve_seat};
-use rr_host::{HaltFlag, Listening};
+use rr_node::{HaltFlag, Listening, OpenGate, Seat, Seats, serve_seat};
 use rr_packed::PackedArchive;
 use std::alloc::Global;
 use std::thread::{Threads, for_each_mut};

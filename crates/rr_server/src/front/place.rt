@@ -2,8 +2,8 @@
 
 ghost use Rattle.std.specs.Thread.{IsSync};
 
-use crate::door::Door;
-use crate::seat::WebSeat;
+use super::door::Door;
+use super::seat::WebSeat;
 use rr_host::{HaltFlag, Listening};
 use rr_node::{OpenGate, Seat, serve_seat};
 use rr_packed::PackedArchive;

@@ -1,6 +1,6 @@
 //! Answers that wait for a save.
 
-use crate::stream::Answers;
+use super::stream::Answers;
 use rr_host::{Flag, SaveNews, Saved};
 use std::alloc::Global;
 use std::mem;

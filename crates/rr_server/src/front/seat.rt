@@ -1,6 +1,6 @@
 //! The seat of an HTTP connection.
 
-use crate::desk::{Clerk, Desk};
+use super::desk::{Clerk, Desk};
 use http_server::{Config, Connection, Reason, State};
 use http1::Limits;
 use rr_host::{Accepted, Half, HaltFlag, Listening, halves};

@@ -1,8 +1,8 @@
 //! The visits of a keeper that takes lines on connections and over HTTP.
 
-use crate::body::{Body, LineAnswers};
-use crate::kept::Kept;
-use crate::stream::{Answers, Input, Output};
+use super::body::{Body, LineAnswers};
+use super::kept::Kept;
+use super::stream::{Answers, Input, Output};
 use rr_host::{Flag, HaltFlag, StartBarrier, Visit, Visits, halves};
 use rr_io::Counted;
 use rr_turns::{Next, Taken, Turns};

@@ -1,4 +1,4 @@
-//! A node that is asked over HTTP too.
+//! What a node that is asked over HTTP has besides.
 //!
 //! ```text
 //! Door ── connections for lines ──┐
@@ -16,7 +16,6 @@
 //!
 //! Each connection has one request, so that a sender which stays connected holds no seat. Of
 //! sockets nothing is known.
-#![tactic(auto)]
 
 mod answered;
 mod body;
@@ -31,13 +30,13 @@ mod seat;
 mod stream;
 mod visits;
 
-pub use answered::Answered;
-pub use body::{Body, LineAnswers};
-pub use desk::Desk;
-pub use door::Door;
-pub use kept::Kept;
-pub use node::serve_web_node;
-pub use place::{Place, WebSeats};
-pub use seat::WebSeat;
-pub use stream::{Answers, Input, Output};
-pub use visits::{Queue, Queued};
+pub(crate) use answered::Answered;
+pub(crate) use body::{Body, LineAnswers};
+pub(crate) use desk::Desk;
+pub(crate) use door::Door;
+pub(crate) use kept::Kept;
+pub(crate) use node::serve_web_node;
+pub(crate) use place::{Place, WebSeats};
+pub(crate) use seat::WebSeat;
+pub(crate) use stream::{Answers, Input, Output};
+pub(crate) use visits::{Queue, Queued};
