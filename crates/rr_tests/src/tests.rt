@@ -1,5 +1,4 @@
 mod archives;
-mod contributions;
 mod cut;
 mod desk;
 mod faults;
@@ -23,4 +22,3 @@ mod seats;
 mod server;
 mod starved;
 mod streams;
-mod words;

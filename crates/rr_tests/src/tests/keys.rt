@@ -1,6 +1,6 @@
 //! Keys made of names, and names with their escapes.
 
-use rr_key::{Class, KeyFault, SeriesKey, escape, name_len, unescape};
+use rr_key::{Class, KeyFault, SeriesKey, escape, unescape};
 use rr_text::limits::MAX_KEY_TEXT;
 use std::alloc::{AllocError, Global};
 use std::test::Fail;
@@ -115,13 +115,6 @@ fn a_name_is_escaped(rt: HostRuntime) -> Result<(), Fail> {
     let escaped = escape(rt.alloc(), Class::Other, b"a=,")?;
     assert!(rt; escaped.as_slice() == b"a\\=\\,".as_slice());
     Ok(())
-}
-
-#[test]
-fn a_name_ends_before_a_special_byte_of_its_class(rt: HostRuntime) {
-    let tag = name_len(Class::Other, b"a\\=b=1");
-    let measurement = name_len(Class::Measurement, b"a=b");
-    assert_eq!(rt; (tag, measurement), (4, 3));
 }
 
 /// Takes what several threads may hold.

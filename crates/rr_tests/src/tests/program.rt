@@ -92,10 +92,34 @@ const ENDS: &str = "rr | | 0 | m v,60,7 | |
 rr sim | | 0 | m v,60,7 | |
 rr sim script.rr | m | 0 | m v,60,7 | |
 rr sim no.rr | | 3 | | rr: no.rr: No such file | rr: read failed
+rr sim -- -f | | 3 | | rr: -f: No such file | rr: read failed
+rr sim f g | | 2 | | error: unexpected argument 'g' | '--help'.
+rr sim --now=1 | | 2 | | error: unexpected argument '--now' | '--help'.
+rr sim --help | | 2 | | Runs a script of several nodes | Print help
 rr check-lines --precision s --now=-7 | m v=1i 5 | 0 | m v,1,5000000000 | |
 rr check-lines --precision s --now=-7 | m v=1i | 0 | m v,1,-7 | |
 rr check-lines | m v=1 | 1 | line 1: FloatField | |
+rr check-lines | m v=1i | 0 | m v,1,0 | |
+rr check-lines --precision s | m v=1i 5 | 0 | m v,1,5000000000 | |
+rr check-lines --precision=ms | m v=1i 5 | 0 | m v,1,5000000 | |
+rr check-lines --precision us | m v=1i 5 | 0 | m v,1,5000 | |
+rr check-lines --precision ns | m v=1i 5 | 0 | m v,1,5 | |
+rr check-lines --now 5 | m v=1i | 0 | m v,1,5 | |
+rr check-lines --now=007 --precision s | m v=1i | 0 | m v,1,7 | |
+rr check-lines --now=-9223372036854775808 | m v=1i | 0 | m v,1,-9223372036854775808 | |
+rr check-lines --now -5 | | 2 | | error: unexpected argument '-5' | '--help'.
+rr check-lines --now=+5 | | 2 | | error: invalid value for '--now <T>' | '--help'.
+rr check-lines --now= | | 2 | | error: invalid value for '--now <T>' | '--help'.
+rr check-lines --now=9223372036854775808 | | 2 | | error: invalid value for '--now <T>' | '--help'.
+rr check-lines --now | | 2 | | error: a value is required for '--now <T>' | '--help'.
+rr check-lines --now=1 --now=1 | | 2 | | error: the argument '--now <T>' cannot be used | '--help'.
+rr check-lines --precision h | | 2 | | error: invalid value for '--precision <P>' | '--help'.
+rr check-lines --precision NS | | 2 | | error: invalid value for '--precision <P>' | '--help'.
+rr check-lines f | | 2 | | error: unexpected argument 'f' | '--help'.
+rr check-lines -h | | 2 | | Checks lines on standard input | Print help
 rr frob | | 2 | | error: unrecognized subcommand 'frob' | '--help'.
+rr --frob | | 2 | | error: unexpected argument '--frob' | '--help'.
+rr help | | 2 | | A replicated round-robin store | Print version
 rr --help | | 2 | | A replicated round-robin store | Print version
 rr --version | | 2 | | rr 2 | rr 2
 rr no-text | | 2 | | error: invalid UTF-8 | '--help'.
