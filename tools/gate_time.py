@@ -74,9 +74,11 @@ class Times:
                 # After the name, which may have spaces: state, parent, group, session, ..
                 fields = (process / "stat").read_text().rpartition(")")[2].split()
                 if int(fields[3]) == self.session:
-                    self.ticks[process.name] = int(fields[11]) + int(fields[12])
-                    if process.name not in self.parts:
-                        self.parts[process.name] = part_of(process)
+                    # A number is given again to a later process, which began at another time.
+                    begun = process.name, fields[19]
+                    self.ticks[begun] = int(fields[11]) + int(fields[12])
+                    if begun not in self.parts:
+                        self.parts[begun] = part_of(process)
             except (OSError, IndexError):
                 # It has ended.
                 continue
