@@ -61,8 +61,8 @@ pub record WritesFields {S : Type 0} (is_late lacks : Bool) (many : ℕ) (after 
   pub refused : IfErr result IsLeft
   pub fields_left : (n : ℕ) → result ≡ Err (why.Memory n) → n < many
 
--- what a write of a point with so many fields makes of a state, if `put` says what one sample makes of it, and
--- `replica` which replica it stands for
+-- what writing a point does to a state and what it answers: `put` says what one sample does to the state, and `replica`
+-- which replica the state stands for
 abbrev pub WritesPoint : {S : Type 0} → (S → ReplicaState) → (S → List ℕ → ℤ → ℤ → S) → S → S → PointView → ℕ → ℤ
     → Option ℕ → Result ℕ WriteFault → Type 0
 WritesPoint replica put old new p many now lead result =
