@@ -1,9 +1,5 @@
 //! The end of a node before its time.
 
-use std::alloc::{AllocError, Global};
-use std::sync::Arc;
-use std::sync::atomic::{AtomicBool, Ordering};
-
 /// Whoever ends a node before its time, where memory ran out on one of its threads, or for one of
 /// them: the others then wait for no connection any more, and for no byte of one.
 ///
@@ -18,48 +14,4 @@ pub trait Halt {
     /// Ends the node.
     fn halt(&mut self)
         ensures { Grows (calls self.old) (calls self.new) (Halted ∷ []) };
-}
-
-/// A flag that is raised where a node ends before its time. What the node waits for over TCP looks
-/// at it at least once a second: [`Listening`](crate::Listening) then gives no connection any more,
-/// and a [`Half`](crate::Half) fails. Nothing is known of its calls.
-#[derive(Drop)]
-pub struct HaltFlag {
-    is_raised: Arc<AtomicBool>,
-}
-
-impl HaltFlag {
-    /// A flag that isn't raised.
-    pub fn new(alloc: Global) -> Result<HaltFlag, AllocError> {
-        Ok(HaltFlag {
-            is_raised: Arc::new(alloc, AtomicBool::new(false))?,
-        })
-    }
-
-    /// The same flag, for one more owner.
-    pub fn share(&self) -> Result<HaltFlag, AllocError> {
-        Ok(HaltFlag {
-            is_raised: Arc::try_clone(&self.is_raised)?,
-        })
-    }
-
-    /// Raises it for all who share it.
-    pub fn raise(&self) {
-        self.is_raised.store(true, Ordering::SeqCst);
-    }
-
-    /// Whether it was raised.
-    pub fn is_raised(&self) -> bool {
-        self.is_raised.load(Ordering::SeqCst)
-    }
-}
-
-impl Halt for HaltFlag {
-    ghost use Rattle.std.specs.Prelude.{None};
-
-    ghost calls = { λ _. None };
-
-    fn halt(&mut self) {
-        self.raise();
-    }
 }

@@ -10,8 +10,8 @@
 //!
 //! [`serve_node`] keeps rounds on one thread ([`keep_round`]) and serves each [`Seat`] on another.
 //! What is handed in stands behind small traits, each seen as the list of its calls: [`Visits`], a
-//! [`Dial`], a [`Halt`] and a [`Clock`] of [`rr_host`], and a [`Shelf`], which takes snapshots
-//! ([`FileShelf`], by turns [`PacedShelf`], over memory [`PreparedShelf`]).
+//! [`Dial`], a [`Halt`] and a [`Clock`] of [`rr_host`], and a [`Shelf`], which takes snapshots (over
+//! memory [`PreparedShelf`]).
 //!
 //! In `specs/` what lines make of a keeper, and what is answered, is a function of them and the
 //! clock's moments (`specs/Lines.antt`). The answer to a fetch is a function of the cells that the
@@ -24,22 +24,17 @@ mod answer;
 mod answering;
 mod connection;
 mod fault;
-mod file_shelf;
 mod gates;
 mod lines;
 mod node;
-mod paced_shelf;
 mod peers;
 mod prepared_shelf;
 mod pull;
 mod reader;
-mod replaced;
 mod report;
 mod round;
-mod round_log;
 mod rounds;
 mod rules;
-mod save_file;
 mod saving;
 mod seat;
 mod shelf;
@@ -47,24 +42,19 @@ mod tally;
 
 pub use answering::{answer_fetch, answer_line};
 pub use fault::NodeFault;
-pub use file_shelf::FileShelf;
 pub use gates::OpenGate;
 pub use lines::{serve_lines, serve_lines_within};
 pub use node::{Seats, serve_node};
-pub use paced_shelf::PacedShelf;
 pub use prepared_shelf::{PreparedOpening, PreparedShelf, ShelfNote};
 pub use pull::pull_peer;
 pub use reader::serve_reader;
 pub use report::Report;
 pub use round::keep_round;
-pub use round_log::RoundLog;
 pub use rounds::keep_or_halt;
 pub use rr_config::{Config, ConfigFault};
 pub use rr_host::{
-    Board, Calling, Clock, Dial, Flag, Half, Halt, HaltFlag, Listening, Moments, PacedDial,
-    Prepared, PreparedDial, PreparedPeer, SaveNews, Saved, StartBarrier, SystemClock, Visit,
-    Visits, halves,
+    Clock, Dial, Halt, Moments, Prepared, PreparedDial, PreparedPeer, Visit, Visits,
 };
-pub use save_file::SaveFile;
 pub use seat::{Seat, serve_seat};
 pub use shelf::{Opening, Shelf};
+pub use tally::Tally;

@@ -8,20 +8,20 @@ use crate::report::Report;
 /// Counts of the line connections whose lines were served to the end, and of their lines. Each
 /// stops at its greatest value.
 #[derive(Clone, Copy)]
-pub(crate) struct Tally {
+pub struct Tally {
     /// The connections.
-    pub(crate) connections: u64,
+    pub connections: u64,
     /// The points that were written whole.
-    pub(crate) points: u64,
+    pub points: u64,
     /// The samples that were put.
-    pub(crate) samples: u64,
+    pub samples: u64,
     /// The lines that were refused.
-    pub(crate) refused: u64,
+    pub refused: u64,
 }
 
 impl Tally {
     /// No connection.
-    pub(crate) fn new() -> Tally
+    pub fn new() -> Tally
         ensures { result ≡ no_tally }
     {
         Tally {
@@ -33,7 +33,7 @@ impl Tally {
     }
 
     /// Counts a connection by its report.
-    pub(crate) fn add(&mut self, report: &Report)
+    pub fn add(&mut self, report: &Report)
         ensures { self.new ≡ tally_more self.old report.now }
     {
         self.connections = self.connections.saturating_add(1);

@@ -8,13 +8,16 @@
 //! [`run`] takes the words, the configuration, the snapshot and the addresses in this order, and
 //! the first fault ends it. All of it is generic in the runtime, so that a test can stand in for
 //! the process, its files, its network and its clock. Nothing is known of these, so no function
-//! here has a clause: what the text and the bytes mean is in the contracts of
+//! here says more than its trait: what the text and the bytes mean is in the contracts of
 //! [`Config::from_toml`](rr_config::Config::from_toml) and [`load`](rr_snapshot::load), and what a
-//! node does in that of [`serve_node`](rr_node::serve_node), which is handed [`TcpSeats`]. What a
-//! node has besides that is asked over HTTP stands in `front`.
+//! node does in that of [`serve_node`](rr_node::serve_node). That one is handed what stands here:
+//! connections over TCP (`tcp`, [`TcpSeats`]), snapshots in a file (`shelf`), the system's clock
+//! (`clock`) and what its threads tell each other (`signals`). What a node has besides that is
+//! asked over HTTP stands in `front`.
 #![tactic(auto)]
 
 mod about;
+mod clock;
 mod files;
 mod front;
 mod greeting;
@@ -24,8 +27,14 @@ mod plain;
 mod program;
 mod seats;
 mod server;
+mod shelf;
+mod signals;
+mod tcp;
 mod tools;
 mod web;
 
 pub use program::run;
 pub use seats::TcpSeats;
+pub use shelf::FileShelf;
+pub use signals::{HaltFlag, SaveNews, Saved};
+pub use tcp::{Calling, Listening};

@@ -1,8 +1,9 @@
 //! Where the connections of a node come from.
 
 use crate::server::OUT_OF_MEMORY;
+use crate::signals::{Flag, HaltFlag, StartBarrier};
+use crate::tcp::Listening;
 use rr_config::Config;
-use rr_node::{Flag, HaltFlag, Listening, StartBarrier};
 use rr_process::Ending;
 use std::alloc::{AllocError, Global};
 use std::io;

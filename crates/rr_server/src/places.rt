@@ -3,9 +3,11 @@
 use crate::about::about;
 use crate::front::{Answered, Desk, Door, Place, Queue, WebSeat, WebSeats};
 use crate::listeners::{Listeners, Signals};
+use crate::signals::{Board, HaltFlag};
+use crate::tcp::Listening;
 use rr_config::{Config, Http};
 use rr_desk::Reader;
-use rr_node::{Board, HaltFlag, Listening, OpenGate, Seat};
+use rr_node::{OpenGate, Seat};
 use rr_packed::PackedArchive;
 use rr_schema::Origin;
 use std::alloc::{AllocError, Global};

@@ -3,10 +3,12 @@
 use crate::listeners::{Listeners, Signals};
 use crate::seats::TcpSeats;
 use crate::server::OUT_OF_MEMORY;
+use crate::signals::{Flag, HaltFlag};
+use crate::tcp::Listening;
 use crate::tools::Tools;
 use rr_config::Config;
 use rr_desk::{Keeper, Reader};
-use rr_node::{Flag, HaltFlag, Listening, OpenGate, Seat, serve_node};
+use rr_node::{OpenGate, Seat, serve_node};
 use rr_packed::PackedArchive;
 use rr_process::Ending;
 use std::alloc::{AllocError, Global};

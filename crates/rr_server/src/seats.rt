@@ -1,6 +1,8 @@
 //! Seats over TCP.
 
-use rr_node::{HaltFlag, Listening, OpenGate, Seat, Seats, serve_seat};
+use crate::signals::HaltFlag;
+use crate::tcp::Listening;
+use rr_node::{OpenGate, Seat, Seats, serve_seat};
 use rr_packed::PackedArchive;
 use std::alloc::Global;
 use std::thread::{Threads, for_each_mut};

@@ -1,11 +1,11 @@
 //! What the keeper of a node works with.
 
+use crate::clock::SystemClock;
 use crate::program::lent;
+use crate::shelf::{FileShelf, PacedShelf, RoundLog};
+use crate::signals::{Board, Flag, HaltFlag, SaveNews};
+use crate::tcp::{Calling, PacedDial};
 use rr_config::Config;
-use rr_node::{
-    Board, Calling, FileShelf, Flag, HaltFlag, PacedDial, PacedShelf, RoundLog, SaveNews,
-    SystemClock,
-};
 use std::alloc::AllocError;
 use std::net::{Net, TcpStream};
 use std::rt::Files;

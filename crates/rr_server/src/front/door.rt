@@ -1,7 +1,8 @@
 //! The door by which connections for lines come.
 
 use super::visits::Queue;
-use rr_host::{Accepted, HaltFlag, Listening};
+use crate::signals::HaltFlag;
+use crate::tcp::{Accepted, Listening};
 use std::sync::Wait;
 use std::time::{Clock, Duration};
 

@@ -1,7 +1,7 @@
 //! Answers that wait for a save.
 
 use super::stream::Answers;
-use rr_host::{Flag, SaveNews, Saved};
+use crate::signals::{Flag, SaveNews, Saved};
 use std::alloc::Global;
 use std::mem;
 use std::sync::Wait;

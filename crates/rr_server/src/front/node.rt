@@ -3,10 +3,11 @@
 ghost use Rattle.std.specs.Thread.{IsSync};
 
 use super::place::WebSeats;
+use crate::signals::HaltFlag;
 use rr_archive::Cells;
 use rr_config::Config;
 use rr_desk::Keeper;
-use rr_host::{Clock, Dial, HaltFlag, Visits};
+use rr_host::{Clock, Dial, Visits};
 use rr_node::{NodeFault, Shelf, keep_or_halt};
 use std::alloc::Global;
 use std::sync::Wait;

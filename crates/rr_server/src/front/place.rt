@@ -4,7 +4,8 @@ ghost use Rattle.std.specs.Thread.{IsSync};
 
 use super::door::Door;
 use super::seat::WebSeat;
-use rr_host::{HaltFlag, Listening};
+use crate::signals::HaltFlag;
+use crate::tcp::Listening;
 use rr_node::{OpenGate, Seat, serve_seat};
 use rr_packed::PackedArchive;
 use std::alloc::Global;

@@ -1,9 +1,10 @@
 //! The seat of an HTTP connection.
 
 use super::desk::{Clerk, Desk};
+use crate::signals::HaltFlag;
+use crate::tcp::{Accepted, Half, Listening, halves};
 use http_server::{Config, Connection, Reason, State};
 use http1::Limits;
-use rr_host::{Accepted, Half, HaltFlag, Listening, halves};
 use std::hash::RandomState;
 use std::io::{Read, Write};
 use std::net::TcpStream;

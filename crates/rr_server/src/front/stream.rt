@@ -3,7 +3,7 @@
 ghost use Rattle.std.specs.Prelude.{◌≡◌, ◌+◌, ◌≤◌, length};
 
 use super::body::LineAnswers;
-use rr_host::Half;
+use crate::tcp::Half;
 use rr_turns::Slip;
 use std::alloc::{AllocError, Global};
 use std::io;

@@ -3,7 +3,9 @@
 use super::body::{Body, LineAnswers};
 use super::kept::Kept;
 use super::stream::{Answers, Input, Output};
-use rr_host::{Flag, HaltFlag, StartBarrier, Visit, Visits, halves};
+use crate::signals::{Flag, HaltFlag, StartBarrier};
+use crate::tcp::halves;
+use rr_host::{Visit, Visits};
 use rr_io::Counted;
 use rr_turns::{Next, Taken, Turns};
 use std::alloc::{AllocError, Global};
@@ -40,7 +42,7 @@ impl Queue {
 /// What the lines of a body were answered is said on its slip when the body is handed back, since
 /// its lines are published then; or once they are saved ([`Queued::once_saved`]). By turns
 /// ([`Queued::by_turns`]), a visit has failed where none came in time, and the flag is raised for
-/// each connection that brought no byte, as at a [`Listening`](rr_host::Listening).
+/// each connection that brought no byte, as at a [`Listening`](crate::Listening).
 #[derive(Drop)]
 pub struct Queued<'a, R> {
     rt: &'a R,

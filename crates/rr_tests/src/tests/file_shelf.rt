@@ -1,6 +1,7 @@
 //! Snapshots in a file.
 
-use rr_node::{FileShelf, Opening, SaveNews, Saved, Shelf};
+use rr_node::{Opening, Shelf};
+use rr_server::{FileShelf, SaveNews, Saved};
 use rr_snapshot::SaveFault;
 use std::fs;
 use std::io::Write;

@@ -2,7 +2,7 @@
 ghost use Rattle.std.specs.Prelude.{◌≡◌, IfSome};
 ghost use Rattle.std.specs.Io.{ReadsAtMost, WritesAtMost};
 
-use crate::halt::HaltFlag;
+use crate::signals::HaltFlag;
 use std::alloc::Global;
 use std::io;
 use std::io::{ErrorKind, Read, Write};

@@ -1,9 +1,8 @@
 //! What a node says of its rounds.
 
-use crate::replaced::Replaced;
-use crate::report::Report;
-use crate::tally::Tally;
-use rr_host::Board;
+use super::replaced::Replaced;
+use crate::signals::Board;
+use rr_node::{Report, Tally};
 use std::alloc::{AllocError, Global};
 use std::io::Write;
 use std::rt::Files;

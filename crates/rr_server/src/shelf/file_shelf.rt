@@ -1,12 +1,10 @@
 //! Snapshots in a file.
 
-use crate::fault::NodeFault;
-use crate::replaced::Replaced;
-use crate::report::Report;
-use crate::save_file::SaveFile;
-use crate::shelf::{Opening, Shelf};
-use rr_host::{SaveNews, Saved};
+use super::replaced::Replaced;
+use super::save_file::SaveFile;
+use crate::signals::{SaveNews, Saved};
 use rr_io::Counted;
+use rr_node::{NodeFault, Opening, Report, Shelf};
 use rr_snapshot::SaveFault;
 use std::alloc::{AllocError, Global};
 use std::io;

@@ -1,6 +1,6 @@
 //! What became of the saves of a node.
 
-use crate::flag::Flag;
+use super::flag::Flag;
 use std::alloc::{AllocError, Global};
 
 /// How a save ended.

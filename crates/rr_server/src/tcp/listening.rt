@@ -1,10 +1,8 @@
 //! Connections over TCP.
 
-use crate::flag::Flag;
-use crate::halt::HaltFlag;
-use crate::socket::{Half, halves, one_second};
-use crate::start::{StartBarrier, pause};
-use crate::visits::{Visit, Visits};
+use super::socket::{Half, halves, one_second};
+use crate::signals::{Flag, HaltFlag, StartBarrier, pause};
+use rr_host::{Visit, Visits};
 use rr_io::Counted;
 use std::alloc::Global;
 use std::io;

@@ -1,7 +1,6 @@
 //! Peers that are called by turns.
 
-use crate::dial::Dial;
-use crate::pace::Pace;
+use rr_host::{Dial, Pace};
 use rr_io::Counted;
 use std::alloc::{AllocError, Global};
 use std::time::Clock;

@@ -1,6 +1,6 @@
 //! Files whose content is replaced whole.
 
-use crate::save_file::SaveFile;
+use super::save_file::SaveFile;
 use std::alloc::{AllocError, Global};
 use std::fs::OpenFile;
 use std::io::{BufWriter, ErrorKind};

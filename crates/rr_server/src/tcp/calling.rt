@@ -1,8 +1,8 @@
 //! Peers over TCP.
 
-use crate::dial::Dial;
-use crate::halt::HaltFlag;
-use crate::socket::{Half, halves};
+use super::socket::{Half, halves};
+use crate::signals::HaltFlag;
+use rr_host::Dial;
 use rr_io::Counted;
 use std::alloc::Global;
 use std::net::{Net, TcpStream, ToSocketAddrs};

@@ -1,11 +1,10 @@
 //! Snapshots by turns.
 
-use crate::fault::NodeFault;
-use crate::report::Report;
-use crate::round_log::RoundLog;
-use crate::shelf::{Opening, Shelf};
-use rr_host::{Flag, Pace};
+use super::round_log::RoundLog;
+use crate::signals::Flag;
+use rr_host::Pace;
 use rr_io::Counted;
+use rr_node::{NodeFault, Opening, Report, Shelf};
 use rr_snapshot::SaveFault;
 use std::rt::Files;
 use std::sync::Wait;

@@ -1,0 +1,21 @@
+//! Connections over TCP.
+//!
+//! ```text
+//! Listening ─ next ──> a connection's two halves ── take_back ──> closed
+//! Calling ─── open ──> those of a connection to a peer ─────────> closed
+//! ```
+//!
+//! [`Listening`] gives the connections that come, and [`Calling`] reaches peers; by a [`PacedDial`]
+//! each is called at most once in so many seconds. A [`Half`] waits for a second at a time, and
+//! looks then at the flag of its node. Nothing is known of sockets.
+
+mod calling;
+mod listening;
+mod paced;
+mod socket;
+
+pub use calling::Calling;
+pub(crate) use listening::Accepted;
+pub use listening::Listening;
+pub(crate) use paced::PacedDial;
+pub(crate) use socket::{Half, halves};
