@@ -6,7 +6,7 @@ use Rattle.clap.specs.Walk.{Row, Text, is_empty}
 use Rattle.clap.specs.Words.{App, HasMatchesOf, IsAmong, Kinds, fault_of, is_simple, is_simple_and_free, subcommand_of, subcommand_rows_of}
 use Rattle.clap.specs.declared.error.kind.ErrorKind.{ErrorKind}
 use Rattle.clap.specs.declared.parser.matches.ArgMatches.{ArgMatches}
-use Rattle.rr_words.specs.Program.{program_app}
+use Rattle.rr_command_line.specs.Program.{program_app}
 use Rattle.rr_words.specs.Words.{asked_at, asked_of}
 
 taken : (faults : Kinds) (met : Option (Text × List Row)) → faults ≡ []

@@ -1,4 +1,2 @@
-pub mod Program
-pub mod Building
 pub mod Fault
 pub mod Words

@@ -10,7 +10,7 @@ use Rattle.rr_line.specs.declared.precision.Precision.{Precision}
 use Rattle.rr_line.specs.declared.precision.Precision.TheVariants.{Ns, Us, Ms, S}
 use Rattle.rr_words.specs.declared.order.Order.{Order}
 use Rattle.rr_words.specs.declared.order.Order.TheVariants as order
-use Rattle.rr_words.specs.Program.{program_app}
+use Rattle.rr_command_line.specs.Program.{program_app}
 
 -- an order, with its texts as bytes
 pub data Asked : Type 0 where

@@ -6,13 +6,11 @@
 //! serve CONFIG --origin N [--load FILE] [--save FILE]     Order::Serve
 //! ```
 //!
-//! The subcommands, their arguments and their help are built with `clap` (`command_line.rt`).
 //! [`read_words`] makes an [`Order`] of words, or a [`WordsFault`] with the text for whoever wrote
 //! them. In `specs/` what words ask for (`Words.antt`) is a function of the words and of the rules
-//! that `clap` reads them by (`Program.antt`); [`laws`] says what it makes of written-out ones.
+//! that `clap` reads them by ([`rr_command_line`]); [`laws`] says what it makes of written-out ones.
 #![tactic(auto)]
 
-mod command_line;
 mod fault;
 pub mod laws;
 mod order;

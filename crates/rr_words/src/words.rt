@@ -4,12 +4,12 @@ ghost use Rattle.std.specs.Prelude.{◌≡◌, ◌≢◌, Some, None, IfOk, IfEr
 ghost use Rattle.clap.specs.Words.{found_of, kind_of, rows_of, subcommand_rows_of};
 ghost use Rattle.rr_words.specs.Words.{asked_at, asked_by, asked_of, lines_asked, serve_asked};
 
-use crate::command_line::program;
 use crate::fault::WordsFault;
 use crate::order::Order;
 use crate::values::{moment_of, origin_of, owned, precision_of, value_of};
 use clap::error::ErrorKind;
 use clap::{ArgMatches, Command, Error};
+use rr_command_line::program;
 use std::alloc::Global;
 
 const BAD_PRECISION: &str = "invalid value for '--precision <P>': it must be ns, us, ms or s";

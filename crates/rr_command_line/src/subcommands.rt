@@ -1,9 +1,9 @@
-//! The program's command line, built with `clap`.
+//! The program and its subcommands.
 
 ghost use Rattle.std.specs.Prelude.{◌≡◌, IfOk};
 ghost use Rattle.clap.specs.Words.{app_of};
-ghost use Rattle.rr_words.specs.Building.{IsArg, IsCommand};
-ghost use Rattle.rr_words.specs.Program.{sim_app, option_rule, check_lines_app, config_rule, origin_rule, bare_serve_app, serve_app, bare_app, script_command_app, stream_commands_app, program_app};
+ghost use Rattle.rr_command_line.specs.Building.{IsArg, IsCommand};
+ghost use Rattle.rr_command_line.specs.Program.{sim_app, option_rule, check_lines_app, config_rule, origin_rule, bare_serve_app, serve_app, bare_app, script_command_app, stream_commands_app, program_app};
 
 use clap::{Arg, Command};
 use std::alloc::{AllocError, Global};
@@ -123,9 +123,8 @@ fn stream_commands<'a>(alloc: Global) -> Result<Command<'a>, AllocError>
     script_command(alloc)?.subcommand(check_lines(alloc)?)
 }
 
-/// The program and its subcommands, by the names of arguments that the module docs list. `Err`
-/// where memory ran out.
-pub(crate) fn program<'a>(alloc: Global) -> Result<Command<'a>, AllocError>
+/// The program and its subcommands. Refused where memory runs out.
+pub fn program<'a>(alloc: Global) -> Result<Command<'a>, AllocError>
     ensures { IfOk result (λ c. app_of c ≡ program_app) }
 {
     stream_commands(alloc)?.subcommand(serve(alloc)?)

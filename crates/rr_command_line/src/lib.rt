@@ -1,0 +1,16 @@
+//! The program's command line, built with `clap`: its subcommands, their arguments and their help.
+//!
+//! ```text
+//! rr
+//! ├── sim [FILE]
+//! ├── check-lines [--precision P] [--now T]
+//! └── serve CONFIG --origin N [--load FILE] [--save FILE]
+//! ```
+//!
+//! [`program`] builds it. In `specs/` its rules are what `clap` reads words by (`Program.antt`); what
+//! words then ask for is said where they are read.
+#![tactic(auto)]
+
+mod subcommands;
+
+pub use subcommands::program;
