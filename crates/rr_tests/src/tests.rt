@@ -18,7 +18,5 @@ mod rings;
 mod rounds;
 mod schemas;
 mod scripts;
-mod seats;
 mod server;
-mod starved;
 mod streams;

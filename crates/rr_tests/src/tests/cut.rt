@@ -1,7 +1,6 @@
 //! Connections that fail in the middle, within a round and at a seat.
 
 use super::rounds::CONFIG;
-use rr_archive::PlainArchive;
 use rr_base::{Counted, Failing};
 use rr_desk::{Keeper, Reader, open};
 use rr_fakes::replicas::minutes;
@@ -10,6 +9,7 @@ use rr_node::{
     Config, Moments, OpenGate, PreparedDial, PreparedShelf, Seat, Visit, Visits, keep_round,
     serve_seat,
 };
+use rr_packed::PackedArchive;
 use std::alloc::Global;
 use std::io;
 use std::io::Read;
@@ -96,7 +96,7 @@ impl Visits for Cut {
 fn goes_on<R: Wait>(
     rt: &R,
     alloc: Global,
-    keeper: &mut Keeper<PlainArchive>,
+    keeper: &mut Keeper<PackedArchive>,
     lines: &mut Cut,
 ) -> Option<bool> {
     let config = Config::from_toml(alloc, CONFIG).ok()?;
@@ -110,7 +110,7 @@ fn goes_on<R: Wait>(
 }
 
 /// Whether a seat goes on after such a connection, to another one.
-fn serves_both(alloc: Global, reader: Reader<PlainArchive>, visits: Cut) -> bool {
+fn serves_both(alloc: Global, reader: Reader<PackedArchive>, visits: Cut) -> bool {
     let mut seat = Seat {
         reader,
         visits,
@@ -127,7 +127,7 @@ fn serves_both(alloc: Global, reader: Reader<PlainArchive>, visits: Cut) -> bool
 
 /// Whether both go on after connections that fail after so many reads, or have so much room.
 fn go_on<R: Wait>(rt: &R, alloc: Global, reads: u64, room: usize) -> Option<bool> {
-    let replica = minutes::<PlainArchive>(alloc, 2, 3).ok()?;
+    let replica = minutes::<PackedArchive>(alloc, 2, 3).ok()?;
     let (mut keeper, mut readers) = open(alloc, rt, replica, 1).ok()?;
     let round = goes_on(rt, alloc, &mut keeper, &mut Cut::new(alloc, reads, room));
     let seat = readers.pop().map(|reader| serves_both(alloc, reader, Cut::new(alloc, reads, room)));

@@ -1,140 +1,52 @@
 //! Rounds of a keeper in which something fails.
 
 use super::rounds::CONFIG;
-use rr_archive::PlainArchive;
-use rr_base::Counted;
 use rr_desk::open;
 use rr_fakes::replicas::minutes;
 use rr_gossip::GossipFault;
 use rr_node::{
-    Config, Moments, NodeFault, Opening, Prepared, PreparedDial, PreparedPeer, Report, Shelf,
-    keep_round,
+    Config, Moments, NodeFault, Prepared, PreparedDial, PreparedOpening, PreparedPeer,
+    PreparedShelf, ShelfNote, keep_round,
 };
+use rr_packed::PackedArchive;
 use rr_snapshot::SaveFault;
 use std::alloc::Global;
-use std::io;
-use std::io::{ErrorKind, Write};
 use std::sync::Wait;
 use std::test::Fail;
 
-/// A writer that takes nothing.
-#[derive(Drop)]
-struct Full;
-
-impl Write for Full {
-    ghost use Rattle.std.specs.Prelude.{None};
-
-    ghost contents = { λ f. None };
-
-    fn write(&mut self, _buf: &[u8]) -> io::Result<usize> {
-        Err(io::Error::from(ErrorKind::StorageFull))
-    }
-
-    fn flush(&mut self) -> io::Result<()> {
-        Ok(())
-    }
-}
-
-/// A shelf without room: it wants no snapshot, or can't open a writer, or opens one that takes
-/// nothing. It keeps what it was told last.
-#[derive(Drop)]
-struct NoRoom {
-    /// Whether a writer is opened; where this is missing, no snapshot is wanted.
-    opens: Option<bool>,
-    peer: Option<(usize, NodeFault)>,
-    save: Option<SaveFault>,
-    /// Whether the snapshot that was handed back was whole.
-    whole: Option<bool>,
-}
-
-impl Shelf for NoRoom {
-    ghost use Rattle.std.specs.Prelude.{[], ◌∷◌, None};
-    ghost use Rattle.rr_host.specs.Calls.{Grows};
-    ghost use Rattle.rr_host.specs.Streams.{output_of};
-    ghost use Rattle.rr_node.specs.Shelf.{put_back};
-
-    type Output = Full;
-
-    ghost calls = { λ s. None };
-
-    fn lines_taken(&mut self, _report: Option<Report>) {}
-
-    fn own_origin(&mut self, _number: usize) {}
-
-    fn pulls_ended(&mut self, _cells: usize) {}
-
-    fn open(&mut self) -> Opening<Full> {
-        match self.opens {
-            None => Opening::Unwanted,
-            Some(false) => Opening::Failed,
-            Some(true) => Opening::Writer(Counted::new(Full)),
-        }
-    }
-
-    fn take_back(&mut self, output: Counted<Full>, whole: bool)
-        ensures { Grows None None (put_back (output_of (λ _. None) output) whole ∷ []) }
-    {
-        drop(output);
-        self.whole = Some(whole);
-    }
-
-    fn peer_failed(&mut self, number: usize, fault: NodeFault) {
-        self.peer = Some((number, fault));
-    }
-
-    fn save_failed(&mut self, fault: SaveFault) {
-        self.save = Some(fault);
-    }
-}
-
-/// What a round did: whether it says that a connection came, and what its shelf was told.
-type Told = (
-    Option<bool>,
-    Option<(usize, NodeFault)>,
-    Option<SaveFault>,
-    Option<bool>,
-);
-
-/// Keeps a round of a new desk with these connections, and a shelf without room.
-fn told_of<R: Wait>(
-    rt: &R,
-    alloc: Global,
-    lines: &mut Prepared,
-    dial: &mut PreparedDial,
-    config: &Config,
-    opens: Option<bool>,
-) -> Option<Told> {
-    let replica = minutes::<PlainArchive>(alloc, 2, 3).ok()?;
-    let (mut keeper, _readers) = open(alloc, rt, replica, 1).ok()?;
-    let mut shelf = NoRoom {
-        opens,
-        peer: None,
-        save: None,
-        whole: None,
+/// Whether a shelf was told that no lines were served, and of both peers; that it wanted no
+/// snapshot, or that none could be opened, so that the save failed.
+fn is_told(calls: &[ShelfNote], opens: bool) -> bool {
+    let [
+        ShelfNote::LinesTaken(None),
+        ShelfNote::PeerFailed(1, NodeFault::BadAddress),
+        ShelfNote::PeerFailed(2, NodeFault::Session(GossipFault::FrameTooLong)),
+        ShelfNote::PullsEnded(0),
+        rest @ ..,
+    ] = calls
+    else {
+        return false;
     };
-    let mut clock = Moments::new(Vec::new(alloc));
-    let came = keep_round(
-        alloc,
-        &mut keeper,
-        lines,
-        dial,
-        &mut shelf,
-        &mut clock,
-        config,
-        rt,
-    );
-    keeper.close(rt);
-    Some((came.ok(), shelf.peer, shelf.save, shelf.whole))
+    if opens {
+        return matches!(
+            rest,
+            [
+                ShelfNote::Opened(PreparedOpening::Failed),
+                ShelfNote::SaveFailed(SaveFault::WriteFailed)
+            ]
+        );
+    }
+    matches!(rest, [ShelfNote::Opened(PreparedOpening::Unwanted)])
 }
 
-/// Keeps a round of a new desk to which these connections come, with a peer that sends no frame,
-/// and a shelf without room.
-fn told<R: Wait>(
+/// Keeps a round of a new desk with these connections and this shelf. Its second peer sends no
+/// frame. Answers whether a connection came.
+fn kept<R: Wait>(
     rt: &R,
     alloc: Global,
     inputs: &[Option<&[u8]>],
-    opens: Option<bool>,
-) -> Option<Told> {
+    shelf: &mut PreparedShelf,
+) -> Option<bool> {
     let config = Config::from_toml(alloc, CONFIG).ok()?;
     let mut lines = Prepared::new(alloc, inputs).ok()?;
     let peers = [PreparedPeer {
@@ -142,25 +54,47 @@ fn told<R: Wait>(
         sends: Some(b"\xff\xff\xff\xff".as_slice()),
     }];
     let mut dial = PreparedDial::new(alloc, &peers, 2).ok()?;
-    told_of(rt, alloc, &mut lines, &mut dial, &config, opens)
+    let replica = minutes::<PackedArchive>(alloc, 2, 3).ok()?;
+    let (mut keeper, _readers) = open(alloc, rt, replica, 1).ok()?;
+    let mut clock = Moments::new(Vec::new(alloc));
+    let came = keep_round(
+        alloc,
+        &mut keeper,
+        &mut lines,
+        &mut dial,
+        shelf,
+        &mut clock,
+        &config,
+        rt,
+    );
+    keeper.close(rt);
+    came.ok()
 }
 
-/// The fault of the second peer.
-const PEER: Option<(usize, NodeFault)> = Some((2, NodeFault::Session(GossipFault::FrameTooLong)));
+/// Whether a round goes on to its end after a connection that failed, with a shelf that wants no
+/// snapshot or can't open one.
+fn goes_on<R: Wait>(rt: &R, alloc: Global, opens: bool) -> Option<bool> {
+    let openings: &[PreparedOpening] = if opens {
+        &[PreparedOpening::Failed]
+    } else {
+        &[]
+    };
+    let mut shelf = PreparedShelf::new(alloc, openings, 6).ok()?;
+    let came = kept(rt, alloc, &[None], &mut shelf)?;
+    Some(came && is_told(shelf.calls()?, opens))
+}
 
-// Nothing is done where no connection will come.
+/// Whether nothing is done where no connection will come.
+fn is_over<R: Wait>(rt: &R, alloc: Global) -> Option<bool> {
+    let mut shelf = PreparedShelf::new(alloc, &[], 0).ok()?;
+    let came = kept(rt, alloc, &[], &mut shelf)?;
+    Some(!came && shelf.calls()?.is_empty())
+}
+
 #[test]
 fn a_round_goes_on_after_faults(rt: HostRuntime) -> Result<(), Fail> {
-    let fault = Some(SaveFault::WriteFailed);
-    for (opens, save, whole) in [
-        (Some(true), fault, Some(false)),
-        (Some(false), fault, None),
-        (None, None, None),
-    ] {
-        let want = Some((Some(true), PEER, save, whole));
-        assert!(rt; told(&rt, rt.alloc(), &[None], opens) == want);
-    }
-    let over = told(&rt, rt.alloc(), &[], Some(true));
-    assert!(rt; over == Some((Some(false), None, None, None)));
+    assert!(rt; goes_on(&rt, rt.alloc(), true) == Some(true));
+    assert!(rt; goes_on(&rt, rt.alloc(), false) == Some(true));
+    assert!(rt; is_over(&rt, rt.alloc()) == Some(true));
     Ok(())
 }

@@ -1,10 +1,10 @@
 //! Connections of readers.
 
 use super::rounds::SENT;
-use rr_archive::PlainArchive;
 use rr_desk::{Reader, open};
 use rr_fakes::replicas::minutes;
 use rr_node::{OpenGate, Prepared, Seat, serve_seat};
+use rr_packed::PackedArchive;
 use std::alloc::Global;
 use std::test::Fail;
 
@@ -24,7 +24,7 @@ const NOISE: [u8; 12] = [0, 0, 0, 6, 0x9c, 0x41, 0xe3, 0x0a, 0x77, 0xd2, 0x18, 0
 
 /// What a seat writes to the last of six connections. The first five fail, close at once, or send
 /// half a frame, a frame of 4 GB, or random bytes.
-fn last_answer(alloc: Global, reader: Reader<PlainArchive>) -> Option<Vec<u8>> {
+fn last_answer(alloc: Global, reader: Reader<PackedArchive>) -> Option<Vec<u8>> {
     let inputs = [
         None,
         Some(b"".as_slice()),
@@ -51,7 +51,7 @@ fn last_answer(alloc: Global, reader: Reader<PlainArchive>) -> Option<Vec<u8>> {
 
 #[test]
 fn a_seat_goes_on_after_hostile_connections(rt: HostRuntime) -> Result<(), Fail> {
-    let replica = minutes::<PlainArchive>(rt.alloc(), 1, 3)?;
+    let replica = minutes::<PackedArchive>(rt.alloc(), 1, 3)?;
     let Ok((keeper, mut readers)) = open(rt.alloc(), &rt, replica, 1) else {
         panic!(&rt; "no desk");
     };

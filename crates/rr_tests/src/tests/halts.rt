@@ -1,15 +1,11 @@
 //! A node without end that ends where memory runs out on one of its threads, whatever the others
-//! wait for.
+//! wait for. The keeper ends it in the same way: it raises the same flag.
 
-use super::starved::Starved;
-use rr_archive::PlainArchive;
 use rr_desk::{Keeper, Reader, open};
 use rr_fakes::replicas::minutes;
-use rr_node::{
-    Calling, Config, FileShelf, HaltFlag, Listening, Moments, OpenGate, Seat, serve_node,
-};
+use rr_node::{Config, Moments, OpenGate, Seat, serve_node};
 use rr_packed::PackedArchive;
-use rr_server::TcpSeats;
+use rr_server::{Calling, FileShelf, HaltFlag, Listening, TcpSeats};
 use std::alloc::Global;
 use std::io::Write;
 use std::net::{Net, SocketAddr, TcpListener, TcpStream};
@@ -23,11 +19,11 @@ use std::thread::Threads;
 const CONFIG: &[u8] = b"step = 60\nlines = \"l\"\nfetch = [\"f\", \"g\"]\n\
     [[archive]]\nsteps = 1\nrows = 3\nxff_num = 0\nxff_den = 1\n";
 
-/// What is sent: a line for which a keeper takes memory, and one for which a reader does.
-const TEXT: &[u8] = b"m v=1i\nfetch LAST 60 0 60 m v\n";
+/// What is sent: a request for which a reader takes memory.
+const REQUEST: &[u8] = b"fetch LAST 60 0 60 m v\n";
 
-/// Where a node listens: for lines, and for each of two readers.
-type Addresses = (SocketAddr, SocketAddr, SocketAddr);
+/// Where each of two readers is reached.
+type Addresses = (SocketAddr, SocketAddr);
 
 /// Connections that come to a port of this machine, and its address.
 fn listening<R: Net<Listener = TcpListener, Stream = TcpStream>>(
@@ -49,11 +45,11 @@ fn listen_on_all<R: Net<Listener = TcpListener, Stream = TcpStream>>(
     config: &Config,
     halt: &HaltFlag,
 ) -> Option<(Listening, Vec<Listening>, Addresses)> {
-    let (lines, first) = listening(rt, alloc, config, halt)?;
-    let (one, second) = listening(rt, alloc, config, halt)?;
-    let (two, third) = listening(rt, alloc, config, halt)?;
+    let (lines, _) = listening(rt, alloc, config, halt)?;
+    let (one, first) = listening(rt, alloc, config, halt)?;
+    let (two, second) = listening(rt, alloc, config, halt)?;
     let fetch = Vec::from_array(alloc, [one, two]).ok()?;
-    Some((lines, fetch, (first, second, third)))
+    Some((lines, fetch, (first, second)))
 }
 
 /// The seats of two readers.
@@ -81,7 +77,7 @@ fn seats(
 fn serve<R>(
     rt: &R,
     alloc: Global,
-    keeper: &mut Keeper<Starved<PlainArchive>>,
+    keeper: &mut Keeper<PackedArchive>,
     lines: &mut Listening,
     seats: &mut TcpSeats,
     config: &Config,
@@ -107,7 +103,7 @@ fn readers<R: Wait>(rt: &R, alloc: Global) -> Option<Vec<Reader<PackedArchive>>>
     Some(readers)
 }
 
-/// Two that send: one that is silent, and one that has sent the text.
+/// Two that send: one that is silent, and one that has sent the request.
 fn senders<R: Net<Stream = TcpStream>>(
     rt: &R,
     silent: SocketAddr,
@@ -115,11 +111,11 @@ fn senders<R: Net<Stream = TcpStream>>(
 ) -> Option<(TcpStream, TcpStream)> {
     let silent = TcpStream::connect(rt, silent).ok()?;
     let mut sender = TcpStream::connect(rt, sending).ok()?;
-    sender.write_all(TEXT).ok()?;
+    sender.write_all(REQUEST).ok()?;
     Some((silent, sender))
 }
 
-/// Whether a node with a keeper for which memory runs out ends for want of memory.
+/// Whether a node ends for want of memory.
 fn is_starved<R>(
     rt: &R,
     alloc: Global,
@@ -130,26 +126,25 @@ fn is_starved<R>(
 where
     R: Files + Eprint + Net<Listener = TcpListener, Stream = TcpStream> + Threads + Wait + Sync,
 {
-    let replica = minutes::<Starved<PlainArchive>>(alloc, 2, 3).ok()?;
+    let replica = minutes::<PackedArchive>(alloc, 2, 3).ok()?;
     let (mut keeper, _readers) = open(alloc, rt, replica, 1).ok()?;
     let served = serve(rt, alloc, &mut keeper, lines, seats, config);
     keeper.close(rt);
     Some(!served?)
 }
 
-/// Whether a node ends when its keeper, or else its second reader, runs out of memory over the
-/// text. Meanwhile the other of the two waits for a connection, and the first reader for a sender
-/// that is silent.
-fn is_ended<R>(rt: &R, alloc: Global, to_keeper: bool) -> Option<bool>
+/// Whether a node ends when its second reader runs out of memory over the request. Meanwhile the
+/// keeper waits for a connection, and the first reader for a sender that is silent.
+fn is_ended<R>(rt: &R, alloc: Global) -> Option<bool>
 where
     R: Files + Eprint + Net<Listener = TcpListener, Stream = TcpStream> + Threads + Wait + Sync,
 {
     let config = Config::from_toml(alloc, CONFIG).ok()?;
     let halt = HaltFlag::new(alloc).ok()?;
     let readers = readers(rt, alloc)?;
-    let (mut lines, fetch, (keepers, first, second)) = listen_on_all(rt, alloc, &config, &halt)?;
+    let (mut lines, fetch, (first, second)) = listen_on_all(rt, alloc, &config, &halt)?;
     let mut seats = seats(alloc, readers, fetch, &halt)?;
-    let senders = senders(rt, first, if to_keeper { keepers } else { second })?;
+    let senders = senders(rt, first, second)?;
     let is_starved = is_starved(rt, alloc, &mut lines, &mut seats, &config);
     drop(senders);
     is_starved
@@ -157,8 +152,6 @@ where
 
 #[test]
 fn want_of_memory_ends_a_node(rt: HostRuntime) -> Result<(), Fail> {
-    for to_keeper in [true, false] {
-        assert!(rt; is_ended(&rt, rt.alloc(), to_keeper) == Some(true));
-    }
+    assert!(rt; is_ended(&rt, rt.alloc()) == Some(true));
     Ok(())
 }

@@ -4,9 +4,9 @@
 //! host's threads on.
 
 use super::process::{Given, Process};
-use rr_archive::PlainArchive;
 use rr_base::Counted;
 use rr_fakes::replicas::filled;
+use rr_packed::PackedArchive;
 use rr_process::Ending;
 use rr_server::run;
 use rr_snapshot::save;
@@ -59,7 +59,7 @@ pub(crate) fn remove(host: &impl Files, files: &[(&str, &[u8])]) {
 
 /// The snapshot of a replica of origin 3 that holds 7 at the epoch.
 pub(crate) fn snapshot(alloc: Global) -> Option<Vec<u8>> {
-    let replica = filled::<PlainArchive>(alloc, 3, 3, 1).ok()?;
+    let replica = filled::<PackedArchive>(alloc, 3, 3, 1).ok()?;
     let mut output = Counted::new(Vec::new(alloc));
     save(alloc, &replica, &mut output).ok()?;
     Some(output.into_inner())

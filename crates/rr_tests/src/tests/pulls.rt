@@ -1,18 +1,18 @@
 //! Pulls over streams, and the answers to them.
 
-use rr_archive::PlainArchive;
 use rr_base::{Counted, Schema};
 use rr_cells::Cell;
 use rr_delta::Name;
 use rr_fakes::replicas::filled;
 use rr_gossip::{GossipFault, Target, give, pull};
+use rr_packed::PackedArchive;
 use rr_replica::Replica;
 use std::alloc::{AllocError, Global};
 use std::cell;
 use std::test::Fail;
 
 /// What a target asks for, which gets no answer.
-fn asked(alloc: Global, target: &mut Replica<PlainArchive>) -> Vec<u8> {
+fn asked(alloc: Global, target: &mut Replica<PackedArchive>) -> Vec<u8> {
     let mut output = Counted::new(Vec::new(alloc));
     // The pull is ended, since no answer comes.
     let _ended = pull(alloc, &mut Counted::new([].as_slice()), &mut output, target);
@@ -23,7 +23,7 @@ fn asked(alloc: Global, target: &mut Replica<PlainArchive>) -> Vec<u8> {
 fn given(
     alloc: Global,
     asked: &[u8],
-    source: &mut Replica<PlainArchive>,
+    source: &mut Replica<PackedArchive>,
 ) -> Result<Vec<u8>, GossipFault> {
     let mut output = Counted::new(Vec::new(alloc));
     give(alloc, &mut Counted::new(asked), &mut output, source)?;
@@ -34,7 +34,7 @@ fn given(
 fn take(
     alloc: Global,
     answer: &[u8],
-    target: &mut Replica<PlainArchive>,
+    target: &mut Replica<PackedArchive>,
 ) -> Result<(), GossipFault> {
     let mut output = Counted::new(Vec::new(alloc));
     pull(alloc, &mut Counted::new(answer), &mut output, target)
@@ -51,8 +51,8 @@ fn are_pages(reply: &[u8]) -> bool {
 /// What a source answers to a target, which takes it.
 fn passed(
     alloc: Global,
-    source: &mut Replica<PlainArchive>,
-    target: &mut Replica<PlainArchive>,
+    source: &mut Replica<PackedArchive>,
+    target: &mut Replica<PackedArchive>,
 ) -> Result<Vec<u8>, GossipFault> {
     let reply = given(alloc, &asked(alloc, target), source)?;
     take(alloc, &reply, target)?;
@@ -81,7 +81,7 @@ fn a_long_answer_comes_in_pages(rt: HostRuntime) -> Result<(), Fail> {
 /// A target that counts the names that it has given.
 #[derive(Drop)]
 struct Watched {
-    replica: Replica<PlainArchive>,
+    replica: Replica<PackedArchive>,
     given: cell::Cell<usize>,
 }
 

@@ -1,14 +1,15 @@
 //! A node over memory: its rounds.
 
-use rr_archive::PlainArchive;
 use rr_base::{Counted, Origin};
 use rr_desk::{Keeper, open};
 use rr_fakes::replicas::minutes;
 use rr_node::{
-    Config, HaltFlag, Moments, NodeFault, Prepared, PreparedDial, PreparedOpening, PreparedPeer,
+    Config, Moments, NodeFault, Prepared, PreparedDial, PreparedOpening, PreparedPeer,
     PreparedShelf, Seats, ShelfNote, serve_node,
 };
+use rr_packed::PackedArchive;
 use rr_replica::Replica;
+use rr_server::HaltFlag;
 use rr_snapshot::load;
 use std::alloc::Global;
 use std::sync::Wait;
@@ -55,7 +56,7 @@ impl Seats for NoSeats {
 fn is_loaded(alloc: Global, config: &Config, bytes: &[u8]) -> Option<bool> {
     let origin = Origin::new(9).ok()?;
     let mut input = Counted::new(bytes);
-    let replica: Replica<PlainArchive> = load(alloc, &mut input, &config.schema, origin).ok()?;
+    let replica: Replica<PackedArchive> = load(alloc, &mut input, &config.schema, origin).ok()?;
     let Some(cell) = replica.cell_at(0) else {
         return None;
     };
@@ -110,7 +111,7 @@ fn done_by(
 fn kept<R: Wait + Threads + Sync>(
     rt: &R,
     alloc: Global,
-    keeper: &mut Keeper<PlainArchive>,
+    keeper: &mut Keeper<PackedArchive>,
     config: &Config,
     suffices: bool,
 ) -> Option<Done> {

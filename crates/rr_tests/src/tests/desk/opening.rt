@@ -1,7 +1,6 @@
 //! Opening and closing a desk.
 
 use super::{SEVEN, answers};
-use rr_archive::PlainArchive;
 use rr_desk::{FetchFault, Gate, OpenFault, Reader, open};
 use rr_fakes::replicas::one_sample;
 use rr_fetch::parse_request;
@@ -17,7 +16,7 @@ fn opened_for<R: Wait>(
     rt: &R,
     readers: usize,
 ) -> Option<Result<usize, (OpenFault, usize)>> {
-    let replica = one_sample::<PlainArchive>(alloc, 1).ok()?;
+    let replica = one_sample::<PackedArchive>(alloc, 1).ok()?;
     Some(match open(alloc, rt, replica, readers) {
         Ok((keeper, all)) => {
             keeper.close(rt);

@@ -1,9 +1,9 @@
 //! A reader on a thread of its own.
 
 use super::{fetched, key};
-use rr_archive::PlainArchive;
 use rr_desk::{Keeper, Reader, open};
 use rr_fakes::replicas::{MINUTE, minutes};
+use rr_packed::PackedArchive;
 use std::alloc::Global;
 use std::sync::Wait;
 use std::test::Fail;
@@ -11,7 +11,7 @@ use std::thread::{Threads, join};
 
 /// The last value of the minute after the epoch that a reader answers: 0 where nothing is known,
 /// and none where the answer is neither that nor a number from 1 to 1,000.
-fn last_value(alloc: Global, reader: &mut Reader<PlainArchive>) -> Option<u64> {
+fn last_value(alloc: Global, reader: &mut Reader<PackedArchive>) -> Option<u64> {
     let text = fetched(alloc, reader, b"LAST 60 60 120 m v")?;
     let value = text.strip_prefix(b"m v,60,")?.strip_suffix(b"\n")?;
     if value == b"U".as_slice() {
@@ -22,7 +22,7 @@ fn last_value(alloc: Global, reader: &mut Reader<PlainArchive>) -> Option<u64> {
 }
 
 /// Whether each of 10,000 fetches answers what is possible, and none less than the one before it.
-fn fetch_often(alloc: Global, reader: &mut Reader<PlainArchive>) -> bool {
+fn fetch_often(alloc: Global, reader: &mut Reader<PackedArchive>) -> bool {
     let mut last = 0;
     for _ in 0..10_000 {
         match last_value(alloc, reader) {
@@ -35,7 +35,7 @@ fn fetch_often(alloc: Global, reader: &mut Reader<PlainArchive>) -> bool {
 
 /// Whether the keeper puts the values from 1 to 1,000 into that minute, each later than the one
 /// before it, and publishes after each.
-fn put_often<R: Wait>(rt: &R, alloc: Global, keeper: &mut Keeper<PlainArchive>) -> bool {
+fn put_often<R: Wait>(rt: &R, alloc: Global, keeper: &mut Keeper<PackedArchive>) -> bool {
     let Some(key) = key(alloc) else {
         return false;
     };
@@ -52,8 +52,8 @@ fn put_often<R: Wait>(rt: &R, alloc: Global, keeper: &mut Keeper<PlainArchive>) 
 fn fetch_beside<R: Threads + Wait + Sync>(
     rt: &R,
     alloc: Global,
-    keeper: &mut Keeper<PlainArchive>,
-    reader: &mut Reader<PlainArchive>,
+    keeper: &mut Keeper<PackedArchive>,
+    reader: &mut Reader<PackedArchive>,
 ) -> (bool, bool) {
     join(
         rt,
@@ -64,7 +64,7 @@ fn fetch_beside<R: Threads + Wait + Sync>(
 
 #[test]
 fn a_reader_never_goes_back_while_the_keeper_publishes(rt: HostRuntime) -> Result<(), Fail> {
-    let replica = minutes::<PlainArchive>(rt.alloc(), 1, 3)?;
+    let replica = minutes::<PackedArchive>(rt.alloc(), 1, 3)?;
     let Ok((mut keeper, mut readers)) = open(rt.alloc(), &rt, replica, 1) else {
         panic!(&rt; "no desk");
     };
