@@ -14,29 +14,23 @@ use std::alloc::Global;
 use std::sync::Wait;
 use std::test::Fail;
 
-/// Whether a shelf was told that no lines were served, and of both peers; that it wanted no
-/// snapshot, or that none could be opened, so that the save failed.
-fn is_told(calls: &[ShelfNote], opens: bool) -> bool {
-    let [
-        ShelfNote::LinesTaken(None),
-        ShelfNote::PeerFailed(1, NodeFault::BadAddress),
-        ShelfNote::PeerFailed(2, NodeFault::Session(GossipFault::FrameTooLong)),
-        ShelfNote::PullsEnded(0),
-        rest @ ..,
-    ] = calls
-    else {
-        return false;
-    };
-    if opens {
-        return matches!(
-            rest,
-            [
-                ShelfNote::Opened(PreparedOpening::Failed),
-                ShelfNote::SaveFailed(SaveFault::WriteFailed)
-            ]
-        );
+/// What failed: the last peer, and the save.
+type Told = (Option<(usize, NodeFault)>, Option<SaveFault>);
+
+/// What failed, by the calls of a shelf, unless it was told of lines that were served, of cells, or
+/// of a writer that came back.
+fn told(calls: &[ShelfNote]) -> Option<Told> {
+    let mut peer = None;
+    let mut save = None;
+    for call in calls {
+        match call {
+            ShelfNote::PeerFailed(number, fault) => peer = Some((*number, *fault)),
+            ShelfNote::SaveFailed(fault) => save = Some(*fault),
+            ShelfNote::LinesTaken(None) | ShelfNote::PullsEnded(0) | ShelfNote::Opened(_) => {}
+            _ => return None,
+        }
     }
-    matches!(rest, [ShelfNote::Opened(PreparedOpening::Unwanted)])
+    Some((peer, save))
 }
 
 /// Keeps a round of a new desk with these connections and this shelf. Its second peer sends no
@@ -71,17 +65,20 @@ fn kept<R: Wait>(
     came.ok()
 }
 
-/// Whether a round goes on to its end after a connection that failed, with a shelf that wants no
-/// snapshot or can't open one.
-fn goes_on<R: Wait>(rt: &R, alloc: Global, opens: bool) -> Option<bool> {
-    let openings: &[PreparedOpening] = if opens {
-        &[PreparedOpening::Failed]
-    } else {
-        &[]
-    };
+/// The fault of the second peer; the first one can't be reached.
+const PEER: Option<(usize, NodeFault)> = Some((2, NodeFault::Session(GossipFault::FrameTooLong)));
+
+/// What failed in a round after a connection that failed, with a shelf that opens this, and how
+/// often the shelf was called.
+fn gone_on<R: Wait>(
+    rt: &R,
+    alloc: Global,
+    openings: &[PreparedOpening],
+) -> Option<(bool, Told, usize)> {
     let mut shelf = PreparedShelf::new(alloc, openings, 6).ok()?;
     let came = kept(rt, alloc, &[None], &mut shelf)?;
-    Some(came && is_told(shelf.calls()?, opens))
+    let calls = shelf.calls()?;
+    Some((came, told(calls)?, calls.len()))
 }
 
 /// Whether nothing is done where no connection will come.
@@ -93,8 +90,11 @@ fn is_over<R: Wait>(rt: &R, alloc: Global) -> Option<bool> {
 
 #[test]
 fn a_round_goes_on_after_faults(rt: HostRuntime) -> Result<(), Fail> {
-    assert!(rt; goes_on(&rt, rt.alloc(), true) == Some(true));
-    assert!(rt; goes_on(&rt, rt.alloc(), false) == Some(true));
+    let unopened = gone_on(&rt, rt.alloc(), &[PreparedOpening::Failed]);
+    let unwanted = gone_on(&rt, rt.alloc(), &[]);
+    let fault = Some(SaveFault::WriteFailed);
+    assert!(rt; unopened == Some((true, (PEER, fault), 6)));
+    assert!(rt; unwanted == Some((true, (PEER, None), 5)));
     assert!(rt; is_over(&rt, rt.alloc()) == Some(true));
     Ok(())
 }
