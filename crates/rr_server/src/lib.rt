@@ -7,8 +7,8 @@
 //!
 //! [`run`] takes the words, the configuration, the snapshot and the addresses in this order, and
 //! the first fault ends it. All of it is generic in the runtime, so that a test can stand in for
-//! the process, its files, its network and its clock. Nothing is known of these, so no function
-//! here says more than its trait: what the text and the bytes mean is in the contracts of
+//! the process, its files, its network and its clock. Nothing is known of these, so no public
+//! function says more than its trait: what the text and the bytes mean is in the contracts of
 //! [`Config::from_toml`](rr_config::Config::from_toml) and [`load`](rr_snapshot::load), and what a
 //! node does in that of [`serve_node`](rr_node::serve_node). That one is handed what stands here:
 //! connections over TCP (`tcp`, [`TcpSeats`]), snapshots in a file (`shelf`), the system's clock
