@@ -63,7 +63,7 @@ pub record IsBounded (count : ℕ) (total : ℤ) : Type 0 where
   pub least : neg_ℤ (pos (count * 2 ^ 63)) ≤ℤ total
   pub most : total ≤ℤ pos (count * (2 ^ 63 - 1))
 
--- how many values there are and their total, within the bounds of so many 64-bit values
+-- the number of some values, and their total, which is within the bounds for that many
 pub record IsSum (number : ℕ) (value : ℤ) (sum : Sum) : Type 0 where
   pub count : sum.count ≡ number
   pub total : sum.total ≡ value

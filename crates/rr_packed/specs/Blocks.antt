@@ -50,8 +50,8 @@ pub record IsUnheld (b : Block) (number : ℕ) : Type 0 where
   pub readings : place_at b.readings.mask number ≡ None
   pub rows : place_at b.rows.mask number ≡ None
 
--- the rows stay as they were, and unless memory runs out, this one is no longer held as a reading; if it had room for
--- an origin, memory does not run out, and it still has that room
+-- no row changes, and this one is kept as entries and not as a reading, unless memory runs out; where the row had room
+-- for an origin, memory does not run out, and the room stays
 pub record Unpacks (number : ℕ) (old new : Block) (result : Result (Unit {0}) AllocError) : Type 0 where
   pub same : items_in new ≡ items_in old
   pub unpacked : OnOk result (place_at new.readings.mask number ≡ None)

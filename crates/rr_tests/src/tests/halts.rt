@@ -1,9 +1,9 @@
 //! A node without end that ends where memory runs out on one of its threads, whatever the others
-//! wait for. The keeper ends it in the same way: it raises the same flag.
+//! wait for. A keeper that runs out of memory halts it, which raises the same flag.
 
 use rr_desk::{Keeper, Reader, open};
 use rr_fakes::replicas::minutes;
-use rr_node::{Config, Moments, OpenGate, Seat, serve_node};
+use rr_node::{Config, Halt, Moments, OpenGate, Seat, serve_node};
 use rr_packed::PackedArchive;
 use rr_server::{Calling, FileShelf, HaltFlag, Listening, TcpSeats};
 use std::alloc::Global;
@@ -115,7 +115,7 @@ fn senders<R: Net<Stream = TcpStream>>(
     Some((silent, sender))
 }
 
-/// Whether a node ends for want of memory.
+/// Whether a node ends as out of memory.
 fn is_starved<R>(
     rt: &R,
     alloc: Global,
@@ -153,5 +153,14 @@ where
 #[test]
 fn want_of_memory_ends_a_node(rt: HostRuntime) -> Result<(), Fail> {
     assert!(rt; is_ended(&rt, rt.alloc()) == Some(true));
+    Ok(())
+}
+
+#[test]
+fn a_halt_raises_the_flag(rt: HostRuntime) -> Result<(), Fail> {
+    let mut flag = HaltFlag::new(rt.alloc())?;
+    let shared = flag.share()?;
+    flag.halt();
+    assert!(rt; shared.is_raised());
     Ok(())
 }
