@@ -1,50 +1,76 @@
 #!/usr/bin/env python3
-"""How long the gate that docs/GATE.md tells of would have taken in the hour of an earlier one.
+"""How long the gate that docs/GATE.md tells of would have taken in the hour of an earlier reading.
 
-Takes the commit at which docs/GATE.md told of that one. Processors aren't as fast in each hour, but what didn't change
-between the two is the same work: a proof by its crate's code, definitions and proofs, tests by theirs, edits by all of
-these and their files. So the seconds of now are divided by how many times longer that work takes now.
+Processors aren't as fast in each hour, but what didn't change between the two is the same work: the proof or the tests
+of a crate by its code, definitions and proofs, its edits by these and their files. What changed in the crates below is
+left out of account. So the seconds of now are divided by how many times as long the same work takes now.
 """
 
+import argparse
 import re
 import subprocess
 import sys
 
 from crates import TOP, listed
 
-# What each part of a crate's row is made from, by the folders of the crate.
-FILES = {
+PAGE = "docs/GATE.md"
+
+# The folders of a crate that each part of its row is made from.
+FOLDERS = {
     "proof": ["src", "specs", "proofs"],
-    "tests": ["src", "specs", "proofs", "tests"],
+    "tests": ["src", "specs", "proofs"],
     "edits": ["src", "specs", "proofs", "must-fail"],
 }
 
-ROW = re.compile(r"\| `?(\w+)`? \| (\d+) \| (\d+) \| (\d+) \|")
+ROW = re.compile(r"^\| `?(\w+)`? \| (\d+) \| (\d+) \| (\d+) \|", re.MULTILINE)
 
 
 def git(*words):
     return subprocess.run(["git", *words], cwd=TOP, capture_output=True, text=True, check=True).stdout
 
 
-def reading(page):
-    """The commit that was read, and the seconds of each part of each crate."""
-    rows = {(name, part): int(it) for name, *its in ROW.findall(page) for part, it in zip(FILES, its)}
-    return re.search(r"of\s+([0-9a-f]{8})\b", page)[1], rows
+def commit_of(page):
+    """The commit that a page tells of."""
+    found = re.search(r"\bof\s+([0-9a-f]{7,8})\b", page)
+    return found[1] if found else None
+
+
+def page_of(commit):
+    """The last page that told of a commit."""
+    for change in git("log", "--format=%h", "--", PAGE).split():
+        page = git("show", f"{change}:{PAGE}")
+        if commit_of(page) == commit:
+            return page
+    sys.exit(f"no {PAGE} told of {commit}")
+
+
+def seconds_of(page):
+    """The seconds of each part of each crate, and of what names none."""
+    rows = {(name, part): int(it) for name, *its in ROW.findall(page) for part, it in zip(FOLDERS, its)}
+    return {row: seconds for row, seconds in rows.items() if row[0] != "all"}
 
 
 def is_same(name, part, then, now):
-    folders = [f"crates/{name}/{folder}" for folder in FILES[part]]
+    folders = [f"crates/{name}/{folder}" for folder in FOLDERS[part]]
     return not git("diff", "--name-only", then, now, "--", *folders)
 
 
 def main():
-    then, before = reading(git("show", f"{sys.argv[1]}:docs/GATE.md"))
-    now, after = reading((TOP / "docs/GATE.md").read_text())
-    work = [it for it in after if after[it] and before.get(it) and it[0] in listed() and is_same(*it, then, now)]
-    told, took = (sum(rows[it] for it in work) for rows in (before, after))
-    whole = sum(after[it] for it in after if it[0] != "all")
-    print(f"what is the same in {then} and {now}: {told} s then, {took} s now, {took / told:.2f} times as long")
-    print(f"the gate: {whole / 60:.0f} minutes now, {whole * told / took / 60:.0f} in that hour")
+    parser = argparse.ArgumentParser(description=__doc__, formatter_class=argparse.RawDescriptionHelpFormatter)
+    parser.add_argument("commit", help="the commit that was read then, as the page named it")
+    then = parser.parse_args().commit
+    page = (TOP / PAGE).read_text()
+    now = commit_of(page)
+    before, after = seconds_of(page_of(then)), seconds_of(page)
+    crates = listed()
+    same = [row for row in after if row[0] in crates and after[row] and before.get(row) and is_same(*row, then, now)]
+    if not same:
+        sys.exit(f"nothing is the same in {then} and {now}")
+    took_then, takes_now = (sum(seconds[row] for row in same) for seconds in (before, after))
+    whole = sum(after.values()) / 60
+    times = takes_now / took_then
+    print(f"the same in {then} and {now}: {took_then} s then, {takes_now} s now, {times:.2f} times as long")
+    print(f"the gate: {whole:.0f} minutes now, {whole / times:.0f} in that hour")
 
 
 if __name__ == "__main__":
