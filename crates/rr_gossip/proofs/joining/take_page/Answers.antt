@@ -28,3 +28,7 @@ returns-in_err-join_all-clause-taken g c =
     memory_taken joined Waiting c.from_residual-in_err-join_all.result (page_taken s body) (take front.0 es) memory
     (page_front s body es front.0 read)
     (subst (λ l. joined (take front.0 (map owned_cell l))) c.deref.ensures.value front.1)
+
+pub returns-clause-taken : goal.returns-clause-taken
+unfolding page_taken
+returns-clause-taken g c = search rules

@@ -1,4 +1,4 @@
-use Rattle.std.proofs.Common.{true≢false, sym, subst}
+use Rattle.std.proofs.Common.{rules, true≢false, sym, subst}
 use Rattle.std.specs.Prelude.{IsOk}
 use Rattle.rr_replica.specs.SeriesMap.{entries_of}
 use Rattle.rr_cells.specs.declared.op.Op.TheVariants.{Put}
@@ -17,3 +17,9 @@ returns-in_err-put_in-clause-room g c = λ h.
     told in
     let ok : IsOk c.put_in.result = c.put_in.ensures.room there in
     absurd (true≢false (sym (subst IsOk c.in_err-put_in.was ok)))
+
+pub invariant_of-self-2 : goal.invariant_of-self-2
+invariant_of-self-2 g c = search rules
+
+pub returns-clause-state : goal.returns-clause-state
+returns-clause-state g c = search rules
