@@ -11,3 +11,9 @@ pub returns-in-Ok-answer_text-clause-gate : goal.returns-in-Ok-answer_text-claus
 returns-in-Ok-answer_text-clause-gate g c =
     let passed : c.before-2.result ≡ true = search rules in
     asked_more _ _ _ (Before true ∷ []) (After ∷ []) (rw passed at c.before-2.ensures) c.after.ensures
+
+pub after-requires : goal.after-requires
+after-requires g c = search rules
+
+pub returns-in-Err-answer_text-clause-gate : goal.returns-in-Err-answer_text-clause-gate
+returns-in-Err-answer_text-clause-gate g c = search rules

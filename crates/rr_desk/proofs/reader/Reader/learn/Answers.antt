@@ -1,0 +1,5 @@
+use Rattle.std.proofs.Common.{rules}
+use Rattle.rr_desk.proofs.reader.Reader.learn.Goals as goal
+
+pub returns : goal.returns
+returns g c = search rules
