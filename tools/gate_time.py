@@ -10,6 +10,8 @@ Processor time is no fixed measure: a processor is slower while its neighbours w
 may be those of others. So a fixed piece of work is timed now and then, and its shortest, median and longest
 times are printed beside the table, with the minutes that the gate would have taken had that piece always taken what
 it took in the fastest reading so far.
+
+What the page says under a second heading is written by hand, and is kept.
 """
 
 import argparse
@@ -116,6 +118,12 @@ def table(names, sums):
     return "".join(rows)
 
 
+def by_hand(page):
+    """What a page says from its second heading on."""
+    _, heading, rest = page.partition("\n## ")
+    return heading + rest
+
+
 PAGE = """\
 # What the gate cost
 
@@ -172,7 +180,8 @@ def main():
             table=table(listed(clone), sums),
             last=said.read_text().splitlines()[-1],
         )
-        (TOP / "docs/GATE.md").write_text(page)
+        written = TOP / "docs/GATE.md"
+        written.write_text(page + by_hand(written.read_text()))
         print(page, end="")
     return run.returncode
 
