@@ -1,7 +1,7 @@
 //! Where the connections of a node come from.
 
 use crate::server::OUT_OF_MEMORY;
-use crate::signals::{Flag, HaltFlag, StartBarrier};
+use crate::signals::{Flag, HaltFlag, StartBarrier, Waiting};
 use crate::tcp::Listening;
 use rr_config::Config;
 use rr_process::Ending;
@@ -32,6 +32,16 @@ impl Signals {
             alarm: Flag::new(alloc)?,
             start: StartBarrier::new(alloc, threads)?,
         })
+    }
+
+    /// How the visits of one of its threads are waited for: without end, or by turns of so many
+    /// seconds.
+    pub(crate) fn waiting(&self, every: Option<u64>) -> Result<Waiting, AllocError> {
+        let waiting = Waiting::new(self.halt.share()?).after_start(self.start.share()?);
+        match every {
+            Some(every) => Ok(waiting.by_turns(every, self.wish.share()?)),
+            None => Ok(waiting),
+        }
     }
 }
 
@@ -79,12 +89,13 @@ fn listen_for_lines(
     config: &Config,
     signals: &Signals,
 ) -> Result<Listening, Ending> {
-    let lines = listen(rt, config.lines.as_str(), config.idle, signals)?;
+    let address = config.lines.as_str();
     // With HTTP the keeper waits at a queue, and not here.
-    match config.http {
-        Some(_) => Ok(lines),
-        None => by_turns(lines, config.every, &signals.wish),
-    }
+    let every = match config.http {
+        Some(_) => None,
+        None => config.every,
+    };
+    listen_at(rt, address, bind(rt, address)?, config.idle, every, signals)
 }
 
 /// Listens on the addresses of fetches.
@@ -110,7 +121,7 @@ fn listen_for_fetch(
     idle: Option<u64>,
     signals: &Signals,
 ) -> Result<Listening, Ending> {
-    let listening = listen(rt, address, idle, signals)?;
+    let listening = listen_at(rt, address, bind(rt, address)?, idle, None, signals)?;
     match signals.alarm.share() {
         Ok(alarm) => Ok(listening.with_alarm(alarm)),
         Err(_) => Err(OUT_OF_MEMORY),
@@ -147,7 +158,7 @@ fn listen_at_clone(
     signals: &Signals,
 ) -> Result<Listening, Ending> {
     match listener.try_clone() {
-        Ok(listener) => listen_at(rt, address, listener, idle, signals),
+        Ok(listener) => listen_at(rt, address, listener, idle, None, signals),
         Err(error) => Err(ending_of(rt, address, &error)),
     }
 }
@@ -165,17 +176,6 @@ fn ending_of(rt: &impl Eprint, address: &str, error: &io::Error) -> Ending {
     }
 }
 
-/// The same connections, by turns if rounds are kept by time.
-fn by_turns(lines: Listening, every: Option<u64>, wish: &Flag) -> Result<Listening, Ending> {
-    let Some(seconds) = every else {
-        return Ok(lines);
-    };
-    match wish.share() {
-        Ok(wish) => Ok(lines.by_turns(seconds, wish)),
-        Err(_) => Err(OUT_OF_MEMORY),
-    }
-}
-
 /// Binds a listener to an address.
 fn bind(
     rt: &(impl Eprint + Net<Listener = TcpListener, Stream = TcpStream>),
@@ -187,30 +187,21 @@ fn bind(
     }
 }
 
-/// Listens on an address, whose connections may be silent for the idle time, until the flag is
-/// raised. The first is taken once all threads have begun.
-fn listen(
-    rt: &(impl AllocGlobal + Eprint + Net<Listener = TcpListener, Stream = TcpStream>),
-    address: &str,
-    idle: Option<u64>,
-    signals: &Signals,
-) -> Result<Listening, Ending> {
-    listen_at(rt, address, bind(rt, address)?, idle, signals)
-}
-
-/// Listens so with a listener that is bound.
+/// Listens at an address, whose connections may be silent for the idle time, until the flag is
+/// raised, by turns where these are named. The first is taken once all threads have begun.
 fn listen_at(
     rt: &(impl AllocGlobal + Eprint),
     address: &str,
     listener: TcpListener,
     idle: Option<u64>,
+    every: Option<u64>,
     signals: &Signals,
 ) -> Result<Listening, Ending> {
-    let (Ok(halt), Ok(start)) = (signals.halt.share(), signals.start.share()) else {
+    let Ok(waiting) = signals.waiting(every) else {
         return Err(OUT_OF_MEMORY);
     };
-    match Listening::new(rt.alloc(), listener, idle, halt) {
-        Ok(listening) => Ok(listening.after_start(start)),
+    match Listening::new(rt.alloc(), listener, idle, waiting) {
+        Ok(listening) => Ok(listening),
         Err(error) => Err(ending_of(rt, address, &error)),
     }
 }

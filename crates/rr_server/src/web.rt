@@ -4,7 +4,7 @@ use crate::front::{Kept, Queued, WebSeats, serve_web_node};
 use crate::listeners::{Listeners, Signals};
 use crate::places::{Shared, seats};
 use crate::server::{OUT_OF_MEMORY, Server};
-use crate::signals::{Flag, HaltFlag, SaveNews};
+use crate::signals::{Flag, SaveNews, Waiting};
 use crate::tools::{Parts, Tools};
 use rr_config::{Config, Http};
 use rr_desk::{Keeper, Reader};
@@ -22,21 +22,10 @@ use std::time::Clock;
 /// What the visits of a keeper look at and tell.
 #[derive(Drop)]
 struct Marks {
-    /// The flag of the node.
-    halt: HaltFlag,
-    /// For how many seconds a visit is waited for, and the flag for an empty one, if rounds are
-    /// kept by time.
-    turns: Option<(u64, Flag)>,
+    /// How a visit is waited for.
+    waiting: Waiting,
     /// News of what is saved, and the bodies that wait for it, if the configuration says so.
     saves: Option<(SaveNews, Kept)>,
-}
-
-/// What tells of empty visits, if rounds are kept by time.
-fn turns(every: Option<u64>, wish: &Flag) -> Result<Option<(u64, Flag)>, AllocError> {
-    match every {
-        Some(every) => Ok(Some((every, wish.share()?))),
-        None => Ok(None),
-    }
 }
 
 /// News of what is saved, and the bodies that wait for it, if they are answered once they are
@@ -59,8 +48,7 @@ impl Marks {
         signals: &Signals,
     ) -> Result<Marks, AllocError> {
         Ok(Marks {
-            halt: signals.halt.share()?,
-            turns: turns(config.every, &signals.wish)?,
+            waiting: signals.waiting(config.every)?,
             saves: saves(alloc, http, &signals.wish)?,
         })
     }
@@ -71,14 +59,6 @@ impl Marks {
 struct Keeping<'c, 'a, R> {
     visits: Queued<'a, R>,
     tools: Tools<'c, 'a, R>,
-}
-
-/// The visits of a queue.
-fn queued<R: Wait + Clock>(visits: Queued<'_, R>, turns: Option<(u64, Flag)>) -> Queued<'_, R> {
-    match turns {
-        Some((every, wish)) => visits.by_turns(every, wish),
-        None => visits,
-    }
 }
 
 /// Puts what a keeper works with together.
@@ -95,10 +75,9 @@ fn together<'c, 'a, R: Files + Eprint + Clock + Wait>(
         halt,
         wish,
         alarm,
-        start,
+        ..
     } = signals;
-    let visits = Queued::new(rt, alloc, posts.queue, config.idle, marks.halt, start);
-    let visits = queued(visits, marks.turns);
+    let visits = Queued::new(rt, alloc, posts.queue, config.idle, marks.waiting);
     let parts = parts.on_board(posts.board);
     match marks.saves {
         Some((news, kept)) => Keeping {

@@ -3,7 +3,7 @@
 use super::body::{Body, LineAnswers};
 use super::kept::Kept;
 use super::stream::{Answers, Input, Output};
-use crate::signals::{Flag, HaltFlag, StartBarrier};
+use crate::signals::Waiting;
 use crate::tcp::halves;
 use rr_host::{Visit, Visits};
 use rr_io::Counted;
@@ -36,26 +36,20 @@ impl Queue {
     }
 }
 
-/// The visits that wait in a queue, connections and bodies, in turn, until the flag of its node is
-/// raised. Nothing is known of them.
+/// The visits that wait in a queue, connections and bodies, in turn, for as long as they are waited
+/// for ([`Waiting`]). Nothing is known of them.
 ///
 /// What the lines of a body were answered is said on its slip when the body is handed back, since
-/// its lines are published then; or once they are saved ([`Queued::once_saved`]). By turns
-/// ([`Queued::by_turns`]), a visit has failed where none came in time, and the flag is raised for
-/// each connection that brought no byte, as at a [`Listening`](crate::Listening).
+/// its lines are published then; or once they are saved ([`Queued::once_saved`]).
 #[derive(Drop)]
 pub struct Queued<'a, R> {
     rt: &'a R,
     alloc: Global,
     queue: Queue,
     idle: Option<u64>,
-    halt: HaltFlag,
-    /// For how many seconds a visit is waited for, where that ends, and the flag for an empty one.
-    turns: Option<(u64, Flag)>,
+    waiting: Waiting,
     /// The answers that wait for a save, where they do.
     kept: Option<Kept>,
-    /// What is still to be waited at before the first visit.
-    start: Option<StartBarrier>,
 }
 
 /// How long is waited at a time. Then the flag of the node is looked at.
@@ -64,33 +58,21 @@ fn one_second() -> Duration {
 }
 
 impl<'a, R: Wait + Clock> Queued<'a, R> {
-    /// The visits of a queue, whose connections may move no byte for so many seconds, once all
-    /// threads have begun.
+    /// The visits of a queue, waited for so, whose connections may move no byte for `idle` seconds.
     pub fn new(
         rt: &'a R,
         alloc: Global,
         queue: Queue,
         idle: Option<u64>,
-        halt: HaltFlag,
-        start: StartBarrier,
+        waiting: Waiting,
     ) -> Queued<'a, R> {
         Queued {
             rt,
             alloc,
             queue,
             idle,
-            halt,
-            turns: None,
+            waiting,
             kept: None,
-            start: Some(start),
-        }
-    }
-
-    /// The same visits, by turns of so many seconds.
-    pub fn by_turns(self, every: u64, wish: Flag) -> Queued<'a, R> {
-        Queued {
-            turns: Some((every, wish)),
-            ..self
         }
     }
 
@@ -102,29 +84,9 @@ impl<'a, R: Wait + Clock> Queued<'a, R> {
         }
     }
 
-    /// Whether all threads of the node have begun. If one hasn't in time, the node is halted.
-    fn has_started(&mut self) -> bool {
-        let Some(start) = self.start.take() else {
-            return true;
-        };
-        if !start.wait() {
-            self.halt.raise();
-            return false;
-        }
-        true
-    }
-
-    /// For how many seconds a visit is waited for.
-    fn patience(&self) -> u64 {
-        match &self.turns {
-            Some((every, _)) => *every,
-            None => u64::MAX,
-        }
-    }
-
     /// The visit of a connection.
     fn visit_of_connection(&self, stream: TcpStream) -> Visit<Input, Output> {
-        match halves(self.alloc, stream, self.idle, &self.halt) {
+        match halves(self.alloc, stream, self.idle, self.waiting.halt()) {
             Some((input, output)) => Visit::Stream(
                 Counted::new(Input::Connection(input)),
                 Counted::new(Output::Connection(output)),
@@ -173,14 +135,14 @@ impl<R: Wait + Clock> Visits for Queued<'_, R> {
     ghost calls = { λ _. None };
 
     fn next(&mut self) -> Visit<Input, Output> {
-        if !self.has_started() {
+        if !self.waiting.has_started() {
             return Visit::Over;
         }
         if let Some(kept) = &mut self.kept {
             kept.tell(self.rt);
         }
-        for _ in 0..self.patience() {
-            if self.halt.is_raised() {
+        for _ in 0..self.waiting.seconds() {
+            if self.waiting.is_over() {
                 return Visit::Over;
             }
             if let Next::One(taken) = self.queue.turns.take(self.rt, one_second())
@@ -197,10 +159,9 @@ impl<R: Wait + Clock> Visits for Queued<'_, R> {
             (TookBack (stream_of (λ _. None) (λ _. None) input output) ∷ []) }
     {
         if let Input::Connection(half) = input.into_inner()
-            && let Some((_, wish)) = &self.turns
             && !half.has_given()
         {
-            wish.raise();
+            self.waiting.note_empty();
         }
         if let Output::Answers(answers) = output.into_inner() {
             match &mut self.kept {

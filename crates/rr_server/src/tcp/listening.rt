@@ -1,7 +1,7 @@
 //! Connections over TCP.
 
 use super::socket::{Half, halves, one_second};
-use crate::signals::{Flag, HaltFlag, StartBarrier, pause};
+use crate::signals::{Flag, Waiting, pause};
 use rr_host::{Visit, Visits};
 use rr_io::Counted;
 use std::alloc::Global;
@@ -21,13 +21,12 @@ fn with_limit(listener: TcpListener) -> io::Result<TcpListener> {
     Ok(TcpListener::from(OwnedFd::from(socket)))
 }
 
-/// The connections that come to an address, without end, but where the flag of its node is raised:
-/// then none will come any more. Nothing is known of them.
+/// The connections that come to an address, for as long as they are waited for ([`Waiting`]); then
+/// none will come any more. Nothing is known of them.
 ///
 /// One for which there is no memory fails. A read or write of one that moves no byte for the idle
 /// time fails too, so that no silent peer holds whoever serves it. Where none can be taken, as by a
-/// process that has no file descriptor left, one has failed, after a tenth of a second. So has one
-/// where none came in time, if the connections come by turns ([`Listening::by_turns`]). What a peer
+/// process that has no file descriptor left, one has failed, after a tenth of a second. What a peer
 /// of another schema still sends is read before its connection is closed, so that it learns of the
 /// end by a read.
 #[derive(Drop)]
@@ -35,10 +34,7 @@ pub struct Listening {
     alloc: Global,
     listener: TcpListener,
     idle: Option<u64>,
-    halt: HaltFlag,
-    turns: Option<Turns>,
-    /// What is still to be waited at before the first connection.
-    start: Option<StartBarrier>,
+    waiting: Waiting,
     /// Raised for a peer of another schema.
     alarm: Option<Flag>,
     /// Whether the peer of the connection that was given last has another schema.
@@ -56,54 +52,23 @@ pub enum Accepted {
     Over,
 }
 
-/// What connections are waited for by turns.
-#[derive(Drop)]
-struct Turns {
-    /// For how many seconds one is waited for.
-    every: u64,
-    /// Raised for one that brought nothing.
-    wish: Flag,
-}
-
 impl Listening {
-    /// The connections that come to a listener, each of which may move no byte for `idle` seconds,
-    /// or without end where that is missing; they end where the flag is raised.
+    /// The connections that come to a listener, waited for so, each of which may move no byte for
+    /// `idle` seconds, or without end where that is missing.
     pub fn new(
         alloc: Global,
         listener: TcpListener,
         idle: Option<u64>,
-        halt: HaltFlag,
+        waiting: Waiting,
     ) -> io::Result<Listening> {
         Ok(Listening {
             alloc,
             listener: with_limit(listener)?,
             idle,
-            halt,
-            turns: None,
-            start: None,
+            waiting,
             alarm: None,
             differs: false,
         })
-    }
-
-    /// The same connections, none of which is given before all threads of the node have begun. If
-    /// one of them hasn't within ten seconds, as when there was no memory for it, the flag is
-    /// raised.
-    pub fn after_start(self, start: StartBarrier) -> Listening {
-        Listening {
-            start: Some(start),
-            ..self
-        }
-    }
-
-    /// The same connections, by turns: where none comes for `every` seconds, one has failed, so
-    /// that whoever does something after each connection does it then too. For each that brought no
-    /// byte the flag is raised.
-    pub fn by_turns(self, every: u64, wish: Flag) -> Listening {
-        Listening {
-            turns: Some(Turns { every, wish }),
-            ..self
-        }
     }
 
     /// The same connections, with a flag that is raised for each peer that pulls on one and has
@@ -115,34 +80,14 @@ impl Listening {
         }
     }
 
-    /// Whether all threads of the node have begun. If one hasn't in time, the node is halted.
-    fn has_started(&mut self) -> bool {
-        let Some(start) = self.start.take() else {
-            return true;
-        };
-        if !start.wait() {
-            self.halt.raise();
-            return false;
-        }
-        true
-    }
-
-    /// For how many seconds a connection is waited for.
-    fn patience(&self) -> u64 {
-        match &self.turns {
-            Some(turns) => turns.every,
-            None => u64::MAX,
-        }
-    }
-
     /// Waits for the next connection, which isn't handed back. It is as [`Visits::next`] gives it,
     /// but for its halves.
     pub fn accept(&mut self) -> Accepted {
-        if self.halt.is_raised() || !self.has_started() {
+        if self.waiting.is_over() || !self.waiting.has_started() {
             return Accepted::Over;
         }
-        for _ in 0..self.patience() {
-            if self.halt.is_raised() {
+        for _ in 0..self.waiting.seconds() {
+            if self.waiting.is_over() {
                 return Accepted::Over;
             }
             match self.listener.accept() {
@@ -159,7 +104,7 @@ impl Listening {
 
     /// A connection that was taken.
     fn visit(&self, stream: TcpStream) -> Visit<Half, Half> {
-        match halves(self.alloc, stream, self.idle, &self.halt) {
+        match halves(self.alloc, stream, self.idle, self.waiting.halt()) {
             Some((input, output)) => Visit::Stream(Counted::new(input), Counted::new(output)),
             None => Visit::Failed,
         }
@@ -197,10 +142,8 @@ impl Visits for Listening {
             []) }
     {
         let mut input = input.into_inner();
-        if let Some(turns) = &self.turns
-            && !input.has_given()
-        {
-            turns.wish.raise();
+        if !input.has_given() {
+            self.waiting.note_empty();
         }
         if self.differs {
             input.drain();
