@@ -1,7 +1,6 @@
 //! What waits, of two kinds.
 
-ghost use Rattle.std.specs.Prelude.{◌≡◌, ◌<◌, ◌≤◌, ◌++◌, ◌∷◌, [], true, false, length, nat_lt, not};
-ghost use Rattle.rr_turns.specs.Turns.{Takes, TakesNext, first_body, first_connection, waiting};
+ghost use Rattle.std.specs.Prelude.{◌≡◌, ◌≤◌, ◌==◌, ◌&&◌, length, nat_lt, not};
 
 use std::alloc::Global;
 use std::collections::VecDeque;
@@ -29,9 +28,12 @@ pub(crate) struct Places<B, C> {
 }
 
 impl<B: Drop, C: Drop> Places<B, C> {
-    /// None wait.
+    ghost use Rattle.rr_turns.specs.Turns.{Takes, TakesNext, first_body, first_connection};
+    ghost use Rattle.rr_turns.specs.Turns.{HasPut, none_waits, waiting, with_body, with_connection};
+
+    /// None wait, and a body is next.
     pub(crate) fn new(alloc: Global, most_bodies: usize, most_connections: usize) -> Places<B, C>
-        ensures none { (result.bodies.items ≡ []) × (result.connections.items ≡ []) }
+        ensures { waiting result ≡ none_waits most_bodies most_connections }
     {
         Places {
             bodies: VecDeque::new(alloc),
@@ -43,7 +45,10 @@ impl<B: Drop, C: Drop> Places<B, C> {
     }
 
     /// Whether none waits.
-    pub(crate) fn is_empty(&self) -> bool {
+    pub(crate) fn is_empty(&self) -> bool
+        ensures { result
+            ≡ (length self.now.bodies.items == 0 && length self.now.connections.items == 0) }
+    {
         self.bodies.is_empty() && self.connections.is_empty()
     }
 
@@ -64,9 +69,8 @@ impl<B: Drop, C: Drop> Places<B, C> {
 
     /// Takes a body in behind the others, if it has a place and memory; else it is dropped.
     pub(crate) fn put_body(&mut self, body: B) -> bool
-        ensures put { result ≡ true → self.new.bodies.items ≡ self.old.bodies.items ++ body ∷ [] }
-        ensures dropped { result ≡ false → self.new.bodies.items ≡ self.old.bodies.items }
-        ensures others { self.new.connections.items ≡ self.old.connections.items }
+        ensures { HasPut (with_body body (waiting self.old)) (waiting self.old) result
+            (waiting self.new) }
     {
         if self.lacks_body_place() {
             return false;
@@ -76,10 +80,8 @@ impl<B: Drop, C: Drop> Places<B, C> {
 
     /// Takes a connection in behind the others, if it has a place and memory; else it is dropped.
     pub(crate) fn put_connection(&mut self, connection: C) -> bool
-        ensures put { result ≡ true
-            → self.new.connections.items ≡ self.old.connections.items ++ connection ∷ [] }
-        ensures dropped { result ≡ false → self.new.connections.items ≡ self.old.connections.items }
-        ensures others { self.new.bodies.items ≡ self.old.bodies.items }
+        ensures { HasPut (with_connection connection (waiting self.old)) (waiting self.old) result
+            (waiting self.new) }
     {
         if self.lacks_connection_place() {
             return false;
@@ -89,35 +91,27 @@ impl<B: Drop, C: Drop> Places<B, C> {
 
     /// Takes the first body.
     fn take_body(&mut self) -> Option<Taken<B, C>>
-        ensures { Takes (first_body self.old.bodies.items)
-            (waiting self.old.bodies.items self.old.connections.items self.old.turn) result
-            (waiting self.new.bodies.items self.new.connections.items self.new.turn) }
+        ensures { Takes (first_body self.old.bodies.items) (waiting self.old) result
+            (waiting self.new) }
     {
+        let body = self.bodies.pop_front()?;
         self.turn = true;
-        match self.bodies.pop_front() {
-            Some(body) => Some(Taken::Body(body)),
-            None => None,
-        }
+        Some(Taken::Body(body))
     }
 
     /// Takes the first connection.
     fn take_connection(&mut self) -> Option<Taken<B, C>>
-        ensures { Takes (first_connection self.old.connections.items)
-            (waiting self.old.bodies.items self.old.connections.items self.old.turn) result
-            (waiting self.new.bodies.items self.new.connections.items self.new.turn) }
+        ensures { Takes (first_connection self.old.connections.items) (waiting self.old) result
+            (waiting self.new) }
     {
+        let connection = self.connections.pop_front()?;
         self.turn = false;
-        match self.connections.pop_front() {
-            Some(connection) => Some(Taken::Connection(connection)),
-            None => None,
-        }
+        Some(Taken::Connection(connection))
     }
 
     /// Takes the one whose turn it is.
     pub(crate) fn take(&mut self) -> Option<Taken<B, C>>
-        ensures { TakesNext
-            (waiting self.old.bodies.items self.old.connections.items self.old.turn) result
-            (waiting self.new.bodies.items self.new.connections.items self.new.turn) }
+        ensures { TakesNext (waiting self.old) result (waiting self.new) }
     {
         if self.bodies.is_empty() || (self.turn && !self.connections.is_empty()) {
             self.take_connection()

@@ -1,5 +1,5 @@
 use Rattle.std.proofs.Common.{rules}
 use Rattle.rr_turns.proofs.places.Places.put_body.Goals as goal
 
-pub returns-clause-put : goal.returns-clause-put
-returns-clause-put g c = search rules
+pub returns : goal.returns
+returns g c = search rules
