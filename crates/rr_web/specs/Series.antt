@@ -1,11 +1,16 @@
 -- How many keys of series are asked for, and the line of a key.
-use Rattle.std.specs.Prelude.{ℕ, Bool, nat_eq, ◌||◌, ◌==◌, nat_lt, List, [], ◌∷◌, ◌++◌, Option, None, Some, Result, Ok, Err, if◌then◌else◌}
+use Rattle.std.specs.Prelude.{ℕ, Bool, nat_eq, ◌||◌, ◌==◌, nat_lt, List, [], ◌∷◌, ◌++◌, Option, None, Some, Result, Ok, Err, if◌then◌else◌, codes}
 use Rattle.std.specs.List.{starts_with}
 use Rattle.rr_text.specs.declared.bytes.TheConstants.{LINE_FEED}
 use Rattle.rr_text.specs.Text.{number_at}
 use Rattle.rr_web.specs.declared.series.CountFault.{CountFault}
 use Rattle.rr_web.specs.declared.series.CountFault.TheVariants.{BadCount, BadNumber}
 use Rattle.rr_web.specs.declared.series.TheConstants.{KEYS, MAX_KEYS}
+
+-- the printed name of a fault: its variant's
+abbrev pub count_fault_name : CountFault → List ℕ
+count_fault_name BadNumber = codes "BadNumber"
+count_fault_name BadCount = codes "BadCount"
 
 -- 1 to 10,000
 abbrev pub count_at : Option ℕ → Result ℕ CountFault

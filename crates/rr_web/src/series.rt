@@ -4,7 +4,7 @@ ghost use Rattle.std.specs.Prelude.{◌≡◌, ◌-◌, ◌++◌, filter, length
 ghost use Rattle.std.specs.List.{flat_map};
 ghost use Rattle.rr_text.specs.Text.{number_at};
 ghost use Rattle.rr_web.specs.Query.{parameter_of};
-ghost use Rattle.rr_web.specs.Series.{begins_with, count_at, count_in, line_of};
+ghost use Rattle.rr_web.specs.Series.{begins_with, count_at, count_fault_name, count_in, line_of};
 
 use crate::query::parameter;
 use rr_key::SeriesKey;
@@ -33,7 +33,9 @@ pub enum CountFault {
 
 impl CountFault {
     /// The printed name.
-    pub fn name(&self) -> &'static str {
+    pub fn name(&self) -> &'static str
+        ensures { result.now ≡ count_fault_name self.now }
+    {
         match self {
             CountFault::BadNumber => "BadNumber",
             CountFault::BadCount => "BadCount",
