@@ -34,8 +34,7 @@ impl Signals {
         })
     }
 
-    /// How the visits of one of its threads are waited for: without end, or by turns of so many
-    /// seconds.
+    /// How one of its threads waits for visits: without end, or by turns of `every` seconds.
     pub(crate) fn waiting(&self, every: Option<u64>) -> Result<Waiting, AllocError> {
         let waiting = Waiting::new(self.halt.share()?).after_start(self.start.share()?);
         match every {

@@ -58,7 +58,8 @@ fn one_second() -> Duration {
 }
 
 impl<'a, R: Wait + Clock> Queued<'a, R> {
-    /// The visits of a queue, waited for so, whose connections may move no byte for `idle` seconds.
+    /// The visits of a queue, waited for as `waiting` says. Its connections may move no byte for
+    /// `idle` seconds.
     pub fn new(
         rt: &'a R,
         alloc: Global,

@@ -53,8 +53,8 @@ pub enum Accepted {
 }
 
 impl Listening {
-    /// The connections that come to a listener, waited for so, each of which may move no byte for
-    /// `idle` seconds, or without end where that is missing.
+    /// The connections that come to a listener, waited for as `waiting` says. Each may move no byte
+    /// for `idle` seconds, or without end if that is missing.
     pub fn new(
         alloc: Global,
         listener: TcpListener,
