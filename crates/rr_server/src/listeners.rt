@@ -1,7 +1,7 @@
 //! Where the connections of a node come from.
 
 use crate::server::OUT_OF_MEMORY;
-use crate::signals::{Flag, HaltFlag, StartBarrier, Waiting};
+use crate::signals::{Flag, HaltFlag, Patience, StartBarrier};
 use crate::tcp::Listening;
 use rr_config::Config;
 use rr_process::Ending;
@@ -35,11 +35,11 @@ impl Signals {
     }
 
     /// How one of its threads waits for visits: without end, or by turns of `every` seconds.
-    pub(crate) fn waiting(&self, every: Option<u64>) -> Result<Waiting, AllocError> {
-        let waiting = Waiting::new(self.halt.share()?).after_start(self.start.share()?);
+    pub(crate) fn patience(&self, every: Option<u64>) -> Result<Patience, AllocError> {
+        let patience = Patience::new(self.halt.share()?).after_start(self.start.share()?);
         match every {
-            Some(every) => Ok(waiting.by_turns(every, self.wish.share()?)),
-            None => Ok(waiting),
+            Some(every) => Ok(patience.by_turns(every, self.wish.share()?)),
+            None => Ok(patience),
         }
     }
 }
@@ -196,10 +196,10 @@ fn listen_at(
     every: Option<u64>,
     signals: &Signals,
 ) -> Result<Listening, Ending> {
-    let Ok(waiting) = signals.waiting(every) else {
+    let Ok(patience) = signals.patience(every) else {
         return Err(OUT_OF_MEMORY);
     };
-    match Listening::new(rt.alloc(), listener, idle, waiting) {
+    match Listening::new(rt.alloc(), listener, idle, patience) {
         Ok(listening) => Ok(listening),
         Err(error) => Err(ending_of(rt, address, &error)),
     }

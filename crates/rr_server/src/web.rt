@@ -4,7 +4,7 @@ use crate::front::{Kept, Queued, WebSeats, serve_web_node};
 use crate::listeners::{Listeners, Signals};
 use crate::places::{Shared, seats};
 use crate::server::{OUT_OF_MEMORY, Server};
-use crate::signals::{Flag, SaveNews, Waiting};
+use crate::signals::{Flag, Patience, SaveNews};
 use crate::tools::{Parts, Tools};
 use rr_config::{Config, Http};
 use rr_desk::{Keeper, Reader};
@@ -23,7 +23,7 @@ use std::time::Clock;
 #[derive(Drop)]
 struct Marks {
     /// How a visit is waited for.
-    waiting: Waiting,
+    patience: Patience,
     /// News of what is saved, and the bodies that wait for it, if the configuration says so.
     saves: Option<(SaveNews, Kept)>,
 }
@@ -48,7 +48,7 @@ impl Marks {
         signals: &Signals,
     ) -> Result<Marks, AllocError> {
         Ok(Marks {
-            waiting: signals.waiting(config.every)?,
+            patience: signals.patience(config.every)?,
             saves: saves(alloc, http, &signals.wish)?,
         })
     }
@@ -77,7 +77,7 @@ fn together<'c, 'a, R: Files + Eprint + Clock + Wait>(
         alarm,
         ..
     } = signals;
-    let visits = Queued::new(rt, alloc, posts.queue, config.idle, marks.waiting);
+    let visits = Queued::new(rt, alloc, posts.queue, config.idle, marks.patience);
     let parts = parts.on_board(posts.board);
     match marks.saves {
         Some((news, kept)) => Keeping {

@@ -1,7 +1,7 @@
 //! Connections over TCP.
 
 use super::socket::{Half, halves, one_second};
-use crate::signals::{Flag, Waiting, pause};
+use crate::signals::{Flag, Patience, pause};
 use rr_host::{Visit, Visits};
 use rr_io::Counted;
 use std::alloc::Global;
@@ -21,7 +21,7 @@ fn with_limit(listener: TcpListener) -> io::Result<TcpListener> {
     Ok(TcpListener::from(OwnedFd::from(socket)))
 }
 
-/// The connections that come to an address, for as long as they are waited for ([`Waiting`]); then
+/// The connections that come to an address, for as long as they are waited for ([`Patience`]); then
 /// none will come any more. Nothing is known of them.
 ///
 /// One for which there is no memory fails. A read or write of one that moves no byte for the idle
@@ -34,7 +34,7 @@ pub struct Listening {
     alloc: Global,
     listener: TcpListener,
     idle: Option<u64>,
-    waiting: Waiting,
+    patience: Patience,
     /// Raised for a peer of another schema.
     alarm: Option<Flag>,
     /// Whether the peer of the connection that was given last has another schema.
@@ -53,19 +53,19 @@ pub enum Accepted {
 }
 
 impl Listening {
-    /// The connections that come to a listener, waited for as `waiting` says. Each may move no byte
-    /// for `idle` seconds, or without end if that is missing.
+    /// The connections that come to a listener, waited for as `patience` says. Each may move no
+    /// byte for `idle` seconds, or without end if that is missing.
     pub fn new(
         alloc: Global,
         listener: TcpListener,
         idle: Option<u64>,
-        waiting: Waiting,
+        patience: Patience,
     ) -> io::Result<Listening> {
         Ok(Listening {
             alloc,
             listener: with_limit(listener)?,
             idle,
-            waiting,
+            patience,
             alarm: None,
             differs: false,
         })
@@ -83,11 +83,11 @@ impl Listening {
     /// Waits for the next connection, which isn't handed back. It is as [`Visits::next`] gives it,
     /// but for its halves.
     pub fn accept(&mut self) -> Accepted {
-        if self.waiting.is_over() || !self.waiting.has_started() {
+        if self.patience.is_over() || !self.patience.has_started() {
             return Accepted::Over;
         }
-        for _ in 0..self.waiting.seconds() {
-            if self.waiting.is_over() {
+        for _ in 0..self.patience.seconds() {
+            if self.patience.is_over() {
                 return Accepted::Over;
             }
             match self.listener.accept() {
@@ -104,7 +104,7 @@ impl Listening {
 
     /// A connection that was taken.
     fn visit(&self, stream: TcpStream) -> Visit<Half, Half> {
-        match halves(self.alloc, stream, self.idle, self.waiting.halt()) {
+        match halves(self.alloc, stream, self.idle, self.patience.halt()) {
             Some((input, output)) => Visit::Stream(Counted::new(input), Counted::new(output)),
             None => Visit::Failed,
         }
@@ -143,7 +143,7 @@ impl Visits for Listening {
     {
         let mut input = input.into_inner();
         if !input.has_given() {
-            self.waiting.note_empty();
+            self.patience.note_empty();
         }
         if self.differs {
             input.drain();

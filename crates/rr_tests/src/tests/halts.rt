@@ -5,7 +5,7 @@ use rr_desk::{Keeper, Reader, open};
 use rr_fakes::replicas::minutes;
 use rr_node::{Config, Halt, Moments, OpenGate, Seat, serve_node};
 use rr_packed::PackedArchive;
-use rr_server::{Calling, FileShelf, HaltFlag, Listening, TcpSeats, Waiting};
+use rr_server::{Calling, FileShelf, HaltFlag, Listening, Patience, TcpSeats};
 use std::alloc::Global;
 use std::io::Write;
 use std::net::{Net, SocketAddr, TcpListener, TcpStream};
@@ -34,8 +34,8 @@ fn listening<R: Net<Listener = TcpListener, Stream = TcpStream>>(
 ) -> Option<(Listening, SocketAddr)> {
     let listener = TcpListener::bind(rt, "127.0.0.1:0").ok()?;
     let address = listener.local_addr().ok()?;
-    let waiting = Waiting::new(halt.share().ok()?);
-    let listening = Listening::new(alloc, listener, config.idle, waiting).ok()?;
+    let patience = Patience::new(halt.share().ok()?);
+    let listening = Listening::new(alloc, listener, config.idle, patience).ok()?;
     Some((listening, address))
 }
 

@@ -8,7 +8,7 @@ use super::start::StartBarrier;
 /// or by turns; and no longer than until the flag of the node is raised. Nothing is known of its
 /// calls.
 #[derive(Drop)]
-pub struct Waiting {
+pub struct Patience {
     halt: HaltFlag,
     /// What is still to be waited at before the first visit.
     start: Option<StartBarrier>,
@@ -24,10 +24,10 @@ struct Turns {
     wish: Flag,
 }
 
-impl Waiting {
+impl Patience {
     /// Without end, but where the flag is raised.
-    pub fn new(halt: HaltFlag) -> Waiting {
-        Waiting {
+    pub fn new(halt: HaltFlag) -> Patience {
+        Patience {
             halt,
             start: None,
             turns: None,
@@ -36,8 +36,8 @@ impl Waiting {
 
     /// The same, but no visit is given before all threads of the node have begun. If one of them
     /// hasn't within ten seconds, as when there was no memory for it, the flag is raised.
-    pub fn after_start(self, start: StartBarrier) -> Waiting {
-        Waiting {
+    pub fn after_start(self, start: StartBarrier) -> Patience {
+        Patience {
             start: Some(start),
             ..self
         }
@@ -46,8 +46,8 @@ impl Waiting {
     /// The same, by turns: where no visit comes for `every` seconds, one has failed, so that
     /// whoever does something after each visit does it then too. For each that brought no byte the
     /// flag is raised.
-    pub fn by_turns(self, every: u64, wish: Flag) -> Waiting {
-        Waiting {
+    pub fn by_turns(self, every: u64, wish: Flag) -> Patience {
+        Patience {
             turns: Some(Turns { every, wish }),
             ..self
         }
