@@ -11,14 +11,25 @@ use rr_text::limits::MAX_FIELDS;
 /// The most keys that are compared pair by pair. More of them are sorted.
 const FEW: usize = 16;
 
-/// Whether a key occurs twice among entries. Many keys are sorted first.
+/// Whether a key occurs twice among entries.
 pub(crate) fn has_repeat<T: Keyed>(entries: &[T]) -> bool
     requires { length entries.now ≤ MAX_FIELDS }
     ensures { result ≡ has_repeat (map T.key_of entries.now) }
 {
     if entries.len() <= FEW {
-        return bytes::has_repeat(entries);
+        bytes::has_repeat(entries)
+    } else {
+        has_repeat_among_many(entries)
     }
+}
+
+/// Whether a key occurs twice among entries, by sorting the keys. Its array of 8 KiB is filled at
+/// each call, so a line of few keys doesn't come here.
+#[inline(never)]
+fn has_repeat_among_many<T: Keyed>(entries: &[T]) -> bool
+    requires { length entries.now ≤ MAX_FIELDS }
+    ensures { result ≡ has_repeat (map T.key_of entries.now) }
+{
     let mut keys: [&[u8]; MAX_FIELDS] = [b""; MAX_FIELDS];
     let mut count = 0;
     for entry in entries {

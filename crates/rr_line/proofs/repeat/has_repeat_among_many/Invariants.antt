@@ -1,6 +1,6 @@
 use Rattle.std.proofs.Common.{◌≡◌, length, map, take}
 use Rattle.rr_text.specs.declared.limits.TheConstants.{MAX_FIELDS}
-use Rattle.rr_line.proofs.repeat.has_repeat.Given as goal
+use Rattle.rr_line.proofs.repeat.has_repeat_among_many.Given as goal
 
 -- the keys so far are in front
 abbrev pub invariant-loop-entry : goal.invariant-loop-entry

@@ -2,7 +2,7 @@
 use Rattle.std.proofs.Common.{◌∙◌, arith}
 use Rattle.std.proofs.lemmas.List.{length-set}
 use Rattle.rr_line.proofs.SortedLemmas.{one_key_more}
-use Rattle.rr_line.proofs.repeat.has_repeat.Goals as goal
+use Rattle.rr_line.proofs.repeat.has_repeat_among_many.Goals as goal
 
 pub loop-entry-preserved : goal.loop-entry-preserved
 loop-entry-preserved g c = record {
