@@ -19,4 +19,5 @@ mod rounds;
 mod schemas;
 mod scripts;
 mod server;
+mod signals;
 mod streams;
