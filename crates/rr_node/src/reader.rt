@@ -16,7 +16,7 @@ use crate::fault::NodeFault;
 use rr_archive::Cells;
 use rr_desk::{Gate, Reader};
 use rr_feed::{Feed, FeedFault};
-use rr_gossip::{GossipFault, MAX_FRAMES, give_after};
+use rr_gossip::{GossipFault, give_after};
 use rr_io::Counted;
 use rr_io::stream::{flush, read_once, write_all};
 use rr_text::limits::MAX_READS;
@@ -123,7 +123,7 @@ fn give_session<A: Cells, R: Read, W: Write>(
     ensures { GivesSession R.remaining W.contents reader.old reader.new input.old input.new
         output.old output.new result }
 {
-    give_after(alloc, &[0], input, output, reader, MAX_FRAMES)?;
+    give_after(alloc, 0, input, output, reader)?;
     Ok(())
 }
 

@@ -22,4 +22,5 @@ mod scripts;
 mod seats;
 mod server;
 mod signal;
+mod signals;
 mod streams;
