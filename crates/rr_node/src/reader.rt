@@ -1,7 +1,7 @@
 //! The connections of a reader: fetches, or one session in which a peer pulls.
 
 ghost use Rattle.std.specs.Prelude.{◌≡◌, ◌∷◌, ◌++◌, [], false, Err, IfErr, IfSome, OnErr, OnOk};
-ghost use Rattle.rr_io.specs.Counted.{inner_of};
+ghost use Rattle.rr_io.specs.Counted.{ends_of, inner_of};
 ghost use Rattle.rr_io.specs.Stream.{HasFailed, HasFewReads, HasReads};
 ghost use Rattle.rr_text.specs.declared.limits.TheConstants.{MAX_READS};
 ghost use Rattle.rr_feed.specs.Feed.{items_left};
@@ -163,6 +163,8 @@ pub fn serve_reader<A: Cells, R: Read, W: Write, G: Gate>(
     ensures read_failed { result ≡ Err NodeFault.ReadFailed → HasFailed input.old input.new }
     ensures too_many { result ≡ Err NodeFault.TooManyReads
         → HasReads MAX_READS input.old input.new }
+    ensures no_end { result ≡ Err NodeFault.TooManyReads
+        → ends_of input.new ≡ ends_of input.old }
     ensures write_failed { result ≡ Err NodeFault.WriteFailed → HasFailed output.old output.new }
     ensures session_read_failed { result ≡ Err (NodeFault.Session GossipFault.ReadFailed)
         → HasFailed input.old input.new }

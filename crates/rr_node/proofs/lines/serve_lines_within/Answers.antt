@@ -1,4 +1,4 @@
-use Rattle.std.proofs.Common.{◌≡◌, [], ◌++◌, false, take, ap, ◌∙◌, arith, rules}
+use Rattle.std.proofs.Common.{◌≡◌, [], ◌++◌, false, take, refl, ap, ◌∙◌, arith, rules}
 use Rattle.std.proofs.KnownBytes.{Consumes-nil, Consumes-trans, Appends-nil, Appends-trans}
 use Rattle.std.proofs.lemmas.Result.{err_from_is_err_and}
 use Rattle.rr_io.proofs.CountLemmas.{no_call, HasRisenBy-more, one_more_at_most}
@@ -26,6 +26,7 @@ loop-init g c = record {
   pieces = omega (arith, c.new-connection.ensures.pieces);
   made = no_call _;
   few = omega arith;
+  ends = refl;
   in_count = omega arith;
   out_count = omega arith;
 }
@@ -190,6 +191,7 @@ loop-preserved g c =
       pieces = omega (arith, more.4.items.pieces, takes.pieces, c.loop.invariant.pieces);
       made = HasRisenBy-more c.loop.counter _ _ _ c.loop.invariant.made c.in_ok-given.ensures.reads;
       few = one_more_at_most c.loop.counter _ _ _ c.loop.invariant.few c.in_ok-given.ensures.reads;
+      ends = search rules;
       in_count = omega (arith, c.loop.invariant.in_count, c.in_ok-given.ensures.failures.failures_never_fall);
       out_count = omega (arith, c.loop.invariant.out_count, c.in_ok-answer_lines.ensures.writes.failures_never_fall);
     }

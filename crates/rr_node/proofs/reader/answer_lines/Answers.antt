@@ -1,4 +1,4 @@
-use Rattle.std.proofs.Common.{◌∷◌, ◌++◌, [], ap, ◌∙◌, arith, rules}
+use Rattle.std.proofs.Common.{◌∷◌, ◌++◌, [], refl, ap, ◌∙◌, arith, rules}
 use Rattle.std.proofs.lemmas.Result.{on_err_weaker}
 use Rattle.rr_io.proofs.CountLemmas.{no_call, HasRisenBy-more, one_more_at_most}
 use Rattle.rr_io.specs.Counted.{inner_of}
@@ -22,6 +22,7 @@ loop-init g c =
       going = ap (λ (s : FeedState). s.ended) is;
       made = no_call _;
       few = omega arith;
+      ends = refl;
       in_count = omega arith;
       out_count = omega arith;
     }
@@ -58,6 +59,7 @@ loop-preserved-in_default g c =
       going = answered.handed.ended ∙ c.loop.invariant.going;
       made = HasRisenBy-more c.loop.counter _ _ _ c.loop.invariant.made c.in_ok-given.ensures.reads;
       few = one_more_at_most c.loop.counter _ _ _ c.loop.invariant.few c.in_ok-given.ensures.reads;
+      ends = search rules;
       in_count = omega (arith, c.loop.invariant.in_count, c.in_ok-given.ensures.failures.failures_never_fall);
       out_count = omega (arith, c.loop.invariant.out_count, c.in_ok-answer_items.ensures.writes.failures_never_fall);
     }
@@ -125,6 +127,7 @@ loop-preserved g c =
       going = ap (λ (s : FeedState). s.ended) c.in_ok-push-2.ensures ∙ going;
       made = HasRisenBy-more c.loop.counter _ _ _ c.loop.invariant.made c.in_ok-given.ensures.reads;
       few = one_more_at_most c.loop.counter _ _ _ c.loop.invariant.few c.in_ok-given.ensures.reads;
+      ends = search rules;
       in_count = omega (arith, c.loop.invariant.in_count, c.in_ok-given.ensures.failures.failures_never_fall);
       out_count = omega (arith, c.loop.invariant.out_count, c.in_ok-answer_items.ensures.writes.failures_never_fall);
     }

@@ -1,5 +1,5 @@
 use Rattle.std.proofs.Common.{◌≡◌, ◌+◌, ◌≤◌, false}
-use Rattle.rr_io.specs.Counted.{inner_of, failures_of, reads_of, HasRisenBy}
+use Rattle.rr_io.specs.Counted.{inner_of, ends_of, failures_of, reads_of, HasRisenBy}
 use Rattle.rr_node.specs.Fetches.{sight}
 use Rattle.rr_node.proofs.ServingLemmas.{SoFar}
 use Rattle.rr_node.proofs.reader.answer_lines.Given as goal
@@ -13,6 +13,7 @@ invariant-loop g l = record {
   going : l.feed.ended ≡ false;
   made : HasRisenBy l.counter (reads_of l.initial.input) (reads_of l.input);
   few : reads_of l.input ≤ reads_of l.initial.input + l.counter;
+  ends : ends_of l.input ≡ ends_of l.initial.input;
   in_count : failures_of l.initial.input ≤ failures_of l.input;
   out_count : failures_of l.initial.output ≤ failures_of l.output;
 }
