@@ -1,6 +1,8 @@
 //! The keeper of a desk, which alone writes.
 ghost use Rattle.std.specs.Prelude.{◌≡◌, ◌<◌, ◌↔◌, Err, map, take, drop};
 ghost use Rattle.std.specs.FinMap.{entries, len};
+ghost use Rattle.std.specs.Io.KnownBytes.{Keeps};
+ghost use Rattle.rr_io.specs.Counted.{inner_of};
 ghost use Rattle.rr_cells.specs.CellBounds.{IsCellOf};
 ghost use Rattle.rr_cells.specs.ReplicaState.{IsReplicaState};
 ghost use Rattle.rr_cells.specs.Listing.{at_most_usize, owned_cell};
@@ -218,13 +220,15 @@ impl<A: Cells> Keeper<A> {
     }
 
     /// Writes the cells of all operations, pending ones too, as a snapshot: see
-    /// `rr_snapshot::save`, whose cost it has.
+    /// `rr_snapshot::save`, whose refusals and cost it has.
     pub fn save<W: Write>(&self, alloc: Global, output: &mut Counted<W>) -> Result<(), SaveFault>
         ensures saves { Saves W.contents output.old output.new
             (snapshot_text latest self.now.schema self.now.origin (entries (cells_of self.now)))
             result }
         ensures too_many { (result ≡ Err SaveFault.TooManyCells)
             ↔ (MAX_SNAPSHOT_CELLS < len (cells_of self.now)) }
+        ensures nothing_written { result ≡ Err SaveFault.TooManyCells
+            → Keeps (W.contents (inner_of output.old)) (W.contents (inner_of output.new)) }
     {
         rr_snapshot::save(alloc, self.copies.replica(), output)
     }
