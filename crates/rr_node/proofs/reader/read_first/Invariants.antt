@@ -1,4 +1,4 @@
-use Rattle.std.proofs.Common.{◌+◌, ◌≤◌, []}
+use Rattle.std.proofs.Common.{◌≡◌, ◌+◌, ◌≤◌, []}
 use Rattle.std.specs.Io.KnownBytes.{Consumes}
 use Rattle.rr_io.specs.Counted.{inner_of, ends_of, failures_of, reads_of, HasRisenBy}
 use Rattle.rr_node.proofs.reader.read_first.Given as goal
