@@ -32,6 +32,8 @@ pub enum ShelfNote {
     OwnOrigin(usize),
     /// It was told that the pull of the peer of this number failed.
     PeerFailed(usize, NodeFault),
+    /// It was told how many samples no archive kept.
+    PastHorizon(u64),
     /// It was told that the pulls are over, and how many cells there are.
     PullsEnded(usize),
     /// It was asked for a writer, and opened this.
@@ -118,7 +120,7 @@ impl<'a> Shelf for PreparedShelf<'a> {
     ghost use Rattle.rr_host.specs.Calls.{Grows};
     ghost use Rattle.rr_host.specs.Log.{HasNoted};
     ghost use Rattle.rr_host.specs.Streams.{output_of};
-    ghost use Rattle.rr_node.specs.Shelf.{opened, own_origin, peer_failed, pulled, put_back, save_failed, taken, unopened, unwanted};
+    ghost use Rattle.rr_node.specs.Shelf.{opened, own_origin, past_horizon, peer_failed, pulled, put_back, save_failed, taken, unopened, unwanted};
     ghost use Rattle.rr_node.specs.PreparedShelf.{next_call, next_place, opening_call, Notes};
     ghost use Rattle.rr_node.specs.declared.shelf.Opening.TheVariants as opening;
 
@@ -142,6 +144,12 @@ impl<'a> Shelf for PreparedShelf<'a> {
         ensures { Notes (peer_failed number fault) self.old self.new }
     {
         self.note(ShelfNote::PeerFailed(number, fault));
+    }
+
+    fn past_horizon(&mut self, samples: u64)
+        ensures { Notes (past_horizon samples) self.old self.new }
+    {
+        self.note(ShelfNote::PastHorizon(samples));
     }
 
     fn pulls_ended(&mut self, cells: usize)

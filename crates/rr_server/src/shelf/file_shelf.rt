@@ -104,6 +104,8 @@ impl<R: Files + Eprint> Shelf for FileShelf<'_, R> {
         let _printed = eprintln!(self.rt; "peer {number}: {name}");
     }
 
+    fn past_horizon(&mut self, _samples: u64) {}
+
     fn pulls_ended(&mut self, _cells: usize) {}
 
     fn open(&mut self) -> Opening<SaveFile<R::File>> {

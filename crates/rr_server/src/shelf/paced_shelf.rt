@@ -8,7 +8,7 @@ use rr_node::{NodeFault, Opening, Report, Shelf};
 use rr_snapshot::SaveFault;
 use std::rt::Files;
 use std::sync::Wait;
-use std::time::Clock;
+use std::time::{Clock, Instant};
 
 /// A shelf that wants a snapshot at most once in a turn of so many seconds, or when a flag was
 /// raised, and then hands it to another shelf. After each turn its log says what the rounds did. In
@@ -50,7 +50,12 @@ impl<'a, R: Files + Eprint + Clock + Wait, S> PacedShelf<'a, R, S> {
     fn is_wanted(&self) -> bool {
         // The flag is taken down by a snapshot that is due anyway.
         let is_asked = self.wish.take();
-        is_asked || self.pace.is_due(self.rt)
+        is_asked || self.pace.is_due(self.now())
+    }
+
+    /// What the clock that never goes back says, if it can be read.
+    fn now(&self) -> Option<Instant> {
+        Instant::now(self.rt).ok()
     }
 }
 
@@ -96,7 +101,7 @@ impl<R: Files + Eprint + Clock + Wait, S: Shelf> Shelf for PacedShelf<'_, R, S> 
             self.log.post();
             return Opening::Unwanted;
         }
-        self.pace.done(self.rt);
+        self.pace.done(self.now());
         match self.shelf.open() {
             Opening::Writer(output) => Opening::Writer(output),
             // No writer will be handed back, so the turn is over.
@@ -111,7 +116,7 @@ impl<R: Files + Eprint + Clock + Wait, S: Shelf> Shelf for PacedShelf<'_, R, S> 
         ensures { Grows None None (put_back (output_of S.Output.contents output) whole ∷ []) }
     {
         self.shelf.take_back(output, whole);
-        self.pace.done(self.rt);
+        self.pace.done(self.now());
         self.log.save_is_over();
         self.log.say();
     }
