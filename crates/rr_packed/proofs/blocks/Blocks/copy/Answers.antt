@@ -14,7 +14,7 @@ pub loop-number-preserved : goal.loop-number-preserved
 loop-number-preserved c =
     copied_more c.args.self.now.older.items (deque_iter_rest c.loop-number.number-iterator)
     (deque_iter_rest c.next.new.self) c.loop-number.older.items c.push_back.new.self.items c.in-Some.number
-    c.in-Some.block c.in_ok-copy.field-0 c.loop-number.invariant (search rules) (search rules) (search rules)
+    c.in-Some.block c.in_ok-copy.field-0 c.loop-number.invariant (search rules) (search rules) (search rules) (search rules)
 
 pub invariant_of-result : goal.invariant_of-result
 invariant_of-result c =
@@ -33,11 +33,20 @@ invariant_of-result c =
           ∙ ap (begins_before a.dropped) numbers ∙ a.none_before;
     }
 
-pub returns : goal.returns
-returns c =
+pub returns-clause-rows : goal.returns-clause-rows
+returns-clause-rows c =
     let a = c.args.self.now in
     let left = deque_iter_rest c.loop-number.number-iterator in
     let same = all_copied a.older.items left c.loop-number.older.items c.loop-number.invariant
     (empty_of left (search rules)) in
     copied_rows (all_blocks a) _ (both_copied a.older.items (option_to_list a.newest) c.loop-number.older.items
     (option_to_list c.in_ok-copy_newest.field-0) same c.in_ok-copy_newest.ensures)
+
+pub returns-clause-blocks : goal.returns-clause-blocks
+returns-clause-blocks c =
+    let a = c.args.self.now in
+    let left = deque_iter_rest c.loop-number.number-iterator in
+    let same = all_copied a.older.items left c.loop-number.older.items c.loop-number.invariant
+    (empty_of left (search rules)) in
+    both_copied a.older.items (option_to_list a.newest) c.loop-number.older.items
+    (option_to_list c.in_ok-copy_newest.field-0) same c.in_ok-copy_newest.ensures

@@ -26,7 +26,7 @@ returns-then-not-share_block c =
     let put = older_here a.older.items (option_to_list a.newest) (c.loop-at.at - 1) was c.share_block.new.block
     a.ordered within c.index_mut.ensures.value in
     blocks_alike (all_blocks a) _ was.0 c.share_block.new.block put.sets
-    (c.share_block.ensures ∙ ap items_of_block (sym put.has))
+    (c.share_block.ensures.same ∙ ap items_of_block (sym put.has))
     ∙ c.loop-at.invariant.1
 
 pub loop-at-preserved : goal.loop-at-preserved
@@ -40,6 +40,6 @@ loop-at-preserved c =
     let kept = length-set a.older.items (c.loop-at.at - 1) (was.0, c.share_block.new.block) in (
       omega arith,
       blocks_alike (all_blocks a) _ was.0 c.share_block.new.block put.sets
-          (c.share_block.ensures ∙ ap items_of_block (sym put.has))
+          (c.share_block.ensures.same ∙ ap items_of_block (sym put.has))
           ∙ c.loop-at.invariant.1,
     )
