@@ -27,7 +27,8 @@ fn told(calls: &[ShelfNote]) -> Option<Told> {
             ShelfNote::PeerFailed(number, fault) => peer = Some((*number, *fault)),
             ShelfNote::SaveFailed(fault) => save = Some(*fault),
             ShelfNote::LinesTaken(None) | ShelfNote::PastHorizon(0) => {}
-            ShelfNote::PullsEnded(0) | ShelfNote::Opened(_) => {}
+            ShelfNote::CountsCells(true) | ShelfNote::PullsEnded(Some(0)) => {}
+            ShelfNote::Opened(_) => {}
             _ => return None,
         }
     }
@@ -76,7 +77,7 @@ fn gone_on<R: Wait>(
     alloc: Global,
     openings: &[PreparedOpening],
 ) -> Option<(bool, Told, usize)> {
-    let mut shelf = PreparedShelf::new(alloc, openings, 7).ok()?;
+    let mut shelf = PreparedShelf::new(alloc, openings, 8).ok()?;
     let came = kept(rt, alloc, &[None], &mut shelf)?;
     let calls = shelf.calls()?;
     Some((came, told(calls)?, calls.len()))
@@ -94,8 +95,8 @@ fn a_round_goes_on_after_faults(rt: HostRuntime) -> Result<(), Fail> {
     let unopened = gone_on(&rt, rt.alloc(), &[PreparedOpening::Failed]);
     let unwanted = gone_on(&rt, rt.alloc(), &[]);
     let fault = Some(SaveFault::WriteFailed);
-    assert!(rt; unopened == Some((true, (PEER, fault), 7)));
-    assert!(rt; unwanted == Some((true, (PEER, None), 6)));
+    assert!(rt; unopened == Some((true, (PEER, fault), 8)));
+    assert!(rt; unwanted == Some((true, (PEER, None), 7)));
     assert!(rt; is_over(&rt, rt.alloc()) == Some(true));
     Ok(())
 }

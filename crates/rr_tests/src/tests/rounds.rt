@@ -76,12 +76,12 @@ fn told(calls: &[ShelfNote]) -> Option<(usize, NodeFault)> {
         match call {
             ShelfNote::PeerFailed(number, fault) => failed = Some((*number, *fault)),
             ShelfNote::LinesTaken(Some(_)) | ShelfNote::PastHorizon(0) => {}
-            ShelfNote::PullsEnded(1) => {}
+            ShelfNote::CountsCells(true) | ShelfNote::PullsEnded(Some(1)) => {}
             ShelfNote::Opened(PreparedOpening::Writer) | ShelfNote::TookBack(_, true) => {}
             _ => return None,
         }
     }
-    if calls.len() == 6 { failed } else { None }
+    if calls.len() == 7 { failed } else { None }
 }
 
 /// What a node did: how it ended, which peer failed, whether the right frames were sent to the
@@ -130,7 +130,7 @@ fn kept<R: Wait + Threads + Sync>(
         },
     ];
     let mut dial = PreparedDial::new(alloc, &peers, 5).ok()?;
-    let mut shelf = PreparedShelf::new(alloc, &[PreparedOpening::Writer], 6).ok()?;
+    let mut shelf = PreparedShelf::new(alloc, &[PreparedOpening::Writer], 7).ok()?;
     let mut seats = NoSeats { suffices };
     let mut clock = Moments::new(Vec::new(alloc));
     let served = serve_node(

@@ -1,6 +1,6 @@
 //! A node over memory with two seats, each of which is served on a thread of its own.
 
-use super::signal::{Meets, Signal};
+use super::gates::{Meets, Signal};
 use rr_desk::{Keeper, Reader, open};
 use rr_fakes::replicas::minutes;
 use rr_node::{

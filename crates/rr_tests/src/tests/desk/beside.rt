@@ -1,6 +1,6 @@
 //! Readers on threads of their own, one of which answers while the other is in its copy.
 
-use super::super::signal::{Raises, Signal, WaitsFor};
+use super::super::gates::{Raises, Signal, WaitsFor};
 use rr_desk::{Gate, Reader, open};
 use rr_fakes::replicas::minutes;
 use rr_fetch::parse_request;
