@@ -4,6 +4,7 @@ use Rattle.std.specs.String.{string_bytes}
 use Rattle.std.specs.FinMap.{len}
 use Rattle.rr_cells.specs.Listing.{at_most_usize}
 use Rattle.rr_desk.specs.KeeperState.{KeeperState, cells_of}
+use Rattle.rr_desk.specs.PastHorizon.{past_horizon_of}
 use Rattle.rr_config.specs.declared.config.Config.{Config}
 use Rattle.rr_node.specs.declared.fault.NodeFault.{NodeFault}
 use Rattle.rr_node.specs.declared.report.Report.{Report}
@@ -69,18 +70,18 @@ peers_of config = map string_bytes config.peers.items
 
 -- after the pulls a shelf is told how many samples no archive kept, and that they are over; how many cells there are, if
 -- it wants that
-abbrev pub end_of_pulls : KeeperState → ℕ → Bool → List ShelfCall
-end_of_pulls k lost wanted =
-    past_horizon lost ∷ counts wanted
+abbrev pub end_of_pulls : KeeperState → Bool → List ShelfCall
+end_of_pulls k wanted =
+    past_horizon (past_horizon_of k) ∷ counts wanted
     ∷ pulled (if wanted then Some (at_most_usize (len (cells_of k))) else None) ∷ []
 
 -- the pulls from all peers, of whose end it is told, and then a save; memory may run out in either
 abbrev pub EndsRest : Config → Option Bool → KeeperState → KeeperState → List DialCall → List ShelfCall → Type 0
 EndsRest config came old new dialed shelved =
     ((came ≡ None) × EndsPulls false 1 (peers_of config) old new dialed shelved)
-    ⊎ ((told saved : List ShelfCall) × (lost : ℕ) × (wanted : Bool) × EndsPulls true 1 (peers_of config) old new dialed told
+    ⊎ ((told saved : List ShelfCall) × (wanted : Bool) × EndsPulls true 1 (peers_of config) old new dialed told
     × (((came ≡ Some true) × EndsSave true new saved) ⊎ ((came ≡ None) × EndsSave false new saved))
-    × (shelved ≡ told ++ (end_of_pulls new lost wanted ++ saved)))
+    × (shelved ≡ told ++ (end_of_pulls new wanted ++ saved)))
 
 -- a whole round: where no connection will come, and where memory ran out in one, there is nothing else; else the shelf
 -- is told the connection's report first

@@ -1,6 +1,6 @@
 //! A round of the keeper: the lines of a connection, the pulls from all peers, and a save.
 
-ghost use Rattle.std.specs.Prelude.{◌≡◌, ℕ, Bool, IfErr, List};
+ghost use Rattle.std.specs.Prelude.{◌≡◌, Bool, IfErr, List};
 ghost use Rattle.rr_host.specs.Calls.{DialCall, Grows};
 ghost use Rattle.rr_node.specs.Shelf.{ShelfCall};
 ghost use Rattle.rr_node.specs.Round.{EndsLines, EndsRound, came_in, end_of_pulls, going_on};
@@ -75,8 +75,8 @@ fn take_lines<A: Cells, V: Visits, C: Clock, T: Wait>(
 /// Tells a shelf that a round's pulls are over: how many samples no archive kept, and how many cells
 /// there are, if it wants that.
 fn end_pulls<A: Cells, S: Shelf>(shelf: &mut S, keeper: &Keeper<A>)
-    ensures { (lost : ℕ) × (wanted : Bool) × Grows (S.calls shelf.old) (S.calls shelf.new)
-        (end_of_pulls keeper.now lost wanted) }
+    ensures { (wanted : Bool) × Grows (S.calls shelf.old) (S.calls shelf.new)
+        (end_of_pulls keeper.now wanted) }
 {
     shelf.past_horizon(keeper.past_horizon());
     if shelf.counts_cells() {

@@ -41,8 +41,8 @@ returns-in_err-save_to-clause-round g c =
       p.1,
       q.2,
       grows_on _ _ _ _ _ c.lines_taken.ensures
-          (grows_on _ _ _ _ _ q.3 (grows_on _ _ _ _ _ told.2 s.1)),
-      inr (_, _, _, p.2, inr (q.1, s.0, told.0, told.1, done, inr (refl, s.2), refl), refl),
+          (grows_on _ _ _ _ _ q.3 (grows_on _ _ _ _ _ told.1 s.1)),
+      inr (_, _, _, p.2, inr (q.1, s.0, told.0, done, inr (refl, s.2), refl), refl),
     )
 
 pub returns-clause-round : goal.returns-clause-round
@@ -58,8 +58,8 @@ returns-clause-round g c =
       p.1,
       q.2,
       grows_on _ _ _ _ _ c.lines_taken.ensures
-          (grows_on _ _ _ _ _ q.3 (grows_on _ _ _ _ _ told.2 s.1)),
-      inr (_, _, _, p.2, inr (q.1, s.0, told.0, told.1, done, inl (refl, s.2), refl), refl),
+          (grows_on _ _ _ _ _ q.3 (grows_on _ _ _ _ _ told.1 s.1)),
+      inr (_, _, _, p.2, inr (q.1, s.0, told.0, done, inl (refl, s.2), refl), refl),
     )
 
 pub returns-in_default-clause-round : goal.returns-in_default-clause-round
