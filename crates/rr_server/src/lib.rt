@@ -33,6 +33,7 @@ mod tcp;
 mod tools;
 mod web;
 
+pub use clock::SystemClock;
 pub use program::run;
 pub use seats::TcpSeats;
 pub use shelf::FileShelf;

@@ -1,4 +1,5 @@
 mod archives;
+mod clocks;
 mod cut;
 mod desk;
 mod faults;

@@ -1,0 +1,73 @@
+//! Lines without a time, which are of the moment at which they come.
+
+use rr_base::Counted;
+use rr_desk::open;
+use rr_fakes::replicas::minutes;
+use rr_line::Precision;
+use rr_node::serve_lines;
+use rr_packed::PackedArchive;
+use rr_server::SystemClock;
+use std::alloc::Global;
+use std::cell::Cell;
+use std::io;
+use std::io::ErrorKind;
+use std::sync::Wait;
+use std::test::Fail;
+use std::time::{Clock, Duration};
+
+/// Two samples of a series, without a time.
+const LINES: &[u8] = b"m v=1i\nm v=2i\n";
+
+/// A clock that is a minute later each time it is read.
+#[derive(Drop)]
+struct Later {
+    minutes: Cell<u32>,
+}
+
+impl Clock for Later {
+    fn monotonic(&self) -> io::Result<Duration> {
+        Err(io::Error::from(ErrorKind::Unsupported))
+    }
+
+    fn since_1970(&self) -> io::Result<Duration> {
+        let minutes = self.minutes.get();
+        self.minutes.set(minutes.wrapping_add(1));
+        Ok(Duration::from_secs(u64::from(minutes) * 60))
+    }
+}
+
+/// How many cells of a minute there are after as many connections, each with the lines.
+fn cells_after<R: Wait>(rt: &R, alloc: Global, connections: usize) -> Option<usize> {
+    let replica = minutes::<PackedArchive>(alloc, 1, 3).ok()?;
+    let (mut keeper, _readers) = open(alloc, rt, replica, 1).ok()?;
+    let mut clock = SystemClock::new(Later {
+        minutes: Cell::new(0),
+    });
+    for _ in 0..connections {
+        let mut input = Counted::new(LINES);
+        let mut output = Counted::new(Vec::new(alloc));
+        let served = serve_lines(
+            alloc,
+            &mut input,
+            &mut output,
+            &mut keeper,
+            &mut clock,
+            Precision::Ns,
+            None,
+            rt,
+        );
+        if served.is_err() {
+            break;
+        }
+    }
+    let cells = keeper.cell_count();
+    keeper.close(rt);
+    Some(cells)
+}
+
+#[test]
+fn lines_have_the_moment_of_their_piece(rt: HostRuntime) -> Result<(), Fail> {
+    assert!(rt; cells_after(&rt, rt.alloc(), 1) == Some(1));
+    assert!(rt; cells_after(&rt, rt.alloc(), 2) == Some(2));
+    Ok(())
+}
