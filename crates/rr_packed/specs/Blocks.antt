@@ -90,10 +90,11 @@ has_room_held (Shared b) number origin = false
 abbrev pub all_blocks : Blocks → List (ℤ × HeldBlock)
 all_blocks b = b.older.items ++ option_to_list b.newest
 
--- a block as what it stores and whether it is shared, with its number
+-- what a block stores, and whether it is shared
 abbrev pub held : HeldBlock → (ℕ → List Entry) × Bool
 held b = (stored_in b, is_shared b)
 
+-- a block as that, with its number
 abbrev pub stored : ℤ × HeldBlock → ℤ × ((ℕ → List Entry) × Bool)
 stored b = (b.0, held b.1)
 
