@@ -8,6 +8,7 @@ mod halts;
 mod keys;
 mod known_lines;
 mod longest_fetch;
+mod packed_cells;
 mod process;
 mod program;
 mod pulls;
