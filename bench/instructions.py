@@ -1,14 +1,18 @@
 #!/usr/bin/env python3
 """Counts the instructions and the allocations of the built program's work, by valgrind.
 
-usage: instructions.py [PROGRAM]
+usage: instructions.py [PROGRAM] [--check | --write COMMIT]
 
 Each figure is the difference of two runs, one with 20,000 pieces of the work more than the other, by
 that number: the start of the program isn't in it. Instructions of two runs of one program are the
 same whatever else the machine does, which times are not; they say nothing of caches. Allocations are
-calls of the allocator.
+calls of the allocator. Those of a line that a node takes aren't counted.
+
+With --check, each figure is compared with that of `instructions.txt`, and the status is 1 where one
+is more than a twentieth above it. With --write the figures become that file, as those of a commit.
 """
 
+import argparse
 import itertools
 import pathlib
 import re
@@ -17,7 +21,14 @@ import sys
 import tempfile
 
 from meter_lines import lines
+from node_lines import FIELDS, instructions_a_line
 from store import START, TOP, key
+
+# What the figures are compared with.
+KEPT = TOP / "bench/instructions.txt"
+
+# How much of a figure it may grow by.
+GROWTH = 0.05
 
 # Samples of one field, each in a new row, of this many series.
 SERIES = 1_000
@@ -97,24 +108,70 @@ def figures(folder, program, words, work):
     return [(longer - shorter) / PIECES for shorter, longer in zip(*runs)]
 
 
-def main():
-    program = sys.argv[1] if len(sys.argv) > 1 else str(TOP / "rr")
-    if program == str(TOP / "rr"):
-        subprocess.run([program], stdin=subprocess.DEVNULL, check=True)
-        program = str(TOP / "crates/rr_tool/out/rr_tool")
+def works():
+    """Each piece of work: what it is, the words of the program, and its input."""
     meters = lambda count: (line + "\n" for line in itertools.islice(lines(count, SERIES), count))
+    return (
+        ("a written line of one field, in a new row", [], writes),
+        ("a checked line of one field", ["check-lines"], samples),
+        ("a checked line of three fields", ["check-lines"], meters),
+        ("a fetched row", [], fetches),
+        ("a saved cell", [], saves),
+        ("a loaded cell", [], loads),
+        ("a cell that is listed and compared, nothing new", [], differences),
+    )
+
+
+def measured(program):
+    """The instructions of each piece of work by what it is, and its allocations where they are counted."""
     with tempfile.TemporaryDirectory() as room:
-        for what, words, work in (
-            ("a written line of one field, in a new row", [], writes),
-            ("a checked line of one field", ["check-lines"], samples),
-            ("a checked line of three fields", ["check-lines"], meters),
-            ("a fetched row", [], fetches),
-            ("a saved cell", [], saves),
-            ("a loaded cell", [], loads),
-            ("a cell that is listed and compared, nothing new", [], differences),
-        ):
-            instructions, allocations = figures(pathlib.Path(room), program, words, work)
-            print(f"{what}: {instructions:,.0f} instructions, {allocations:.1f} allocations")
+        folder = pathlib.Path(room)
+        for what, words, work in works():
+            yield what, figures(folder, program, words, work)
+        for fields in FIELDS:
+            yield f"a line that a node takes, fields {fields}", [instructions_a_line(folder, program, fields=fields)]
+
+
+def kept():
+    """The figures that are kept, by what they are of."""
+    rows = (line.split(": ") for line in KEPT.read_text().splitlines() if line and not line.startswith("#"))
+    return {what: [float(it.split()[0].replace(",", "")) for it in told.split(", ")] for what, told in rows}
+
+
+def grown(before, now):
+    """Whether one of these figures is above the kept ones by more than it may be."""
+    return any(one > old * (1 + GROWTH) for old, one in zip(before, now, strict=True))
+
+
+def told(what, found):
+    """The line of a piece of work."""
+    words = (f"{found[0]:,.0f} instructions", *(f"{it:.1f} allocations" for it in found[1:]))
+    return f"{what}: {', '.join(words)}"
+
+
+def built():
+    """The program, built."""
+    subprocess.run([TOP / "rr"], stdin=subprocess.DEVNULL, check=True)
+    return str(TOP / "crates/rr_tool/out/rr_tool")
+
+
+def main():
+    parser = argparse.ArgumentParser(description=__doc__.splitlines()[0])
+    parser.add_argument("program", nargs="?")
+    parser.add_argument("--check", action="store_true")
+    parser.add_argument("--write", metavar="COMMIT")
+    words = parser.parse_args()
+    before = kept() if words.check else {}
+    rows, failed = [], False
+    for what, found in measured(words.program or built()):
+        rows.append(told(what, found))
+        is_grown = words.check and grown(before[what], found)
+        failed |= is_grown
+        print(rows[-1], f"(before: {told(what, before[what]).partition(': ')[2]})" if is_grown else "", flush=True)
+    if words.write:
+        head = f"# As bench/instructions.py wrote them, of the program of {words.write}."
+        KEPT.write_text("\n".join([head, *rows]) + "\n")
+    sys.exit(failed)
 
 
 if __name__ == "__main__":

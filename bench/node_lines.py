@@ -109,6 +109,16 @@ def instructions(folder, program, text, minutes):
     return int(re.search(r"Collected : (\d+)", told).group(1))
 
 
+def instructions_a_line(folder, program, series=1_000, fields=1):
+    """The instructions of a line that a node takes."""
+    minutes = COUNTED // series
+    short, long = (
+        instructions(folder, program, "".join(lines(series, n, fields)).encode(), 2 * minutes)
+        for n in (minutes, 2 * minutes)
+    )
+    return (long - short) / (minutes * series)
+
+
 def main():
     parser = argparse.ArgumentParser(description=__doc__.splitlines()[0])
     parser.add_argument("program", nargs="?", default=str(TOP / "crates/rr_tool/out/rr_tool"))
@@ -120,12 +130,8 @@ def main():
     with tempfile.TemporaryDirectory() as room:
         folder = pathlib.Path(room)
         if words.count:
-            minutes = COUNTED // words.series
-            short, long = (
-                instructions(folder, words.program, "".join(lines(words.series, n, words.fields)).encode(), 2 * minutes)
-                for n in (minutes, 2 * minutes)
-            )
-            print(f"{(long - short) / (minutes * words.series):,.0f} instructions a line")
+            count = instructions_a_line(folder, words.program, words.series, words.fields)
+            print(f"{count:,.0f} instructions a line")
             return
         text = "".join(lines(words.series, words.minutes, words.fields)).encode()
         runs = [taken(folder, [words.program], text, words.minutes) for _ in range(3)]

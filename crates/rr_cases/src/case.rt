@@ -4,7 +4,7 @@ use crate::files::EXPECTED;
 use crate::growths;
 use crate::kind::Kind;
 use anyhow::{Context, Result};
-use rr_archive::Cells;
+use rr_archive::{Cells, PlainArchive};
 use rr_packed::PackedArchive;
 use rr_ring::RingArchive;
 use std::rt::Files;
@@ -103,8 +103,8 @@ fn holds_over<A: Cells, R: AllocGlobal + Print + Wait>(
     }
 }
 
-/// Whether the case of a file of input holds over each kind of archive that a program has. Counts
-/// the growths that are refused.
+/// Whether the case of a file of input holds over each kind of archive. Counts the growths that are
+/// refused.
 pub(crate) fn holds<R: Files + AllocGlobal + Print + Wait>(
     rt: &R,
     file: &str,
@@ -113,6 +113,7 @@ pub(crate) fn holds<R: Files + AllocGlobal + Print + Wait>(
     let case = case_of(rt, file)?;
     Ok(
         holds_over::<RingArchive, R>(rt, &case, file, "rings", refused)?
-            && holds_over::<PackedArchive, R>(rt, &case, file, "packed rows", refused)?,
+            && holds_over::<PackedArchive, R>(rt, &case, file, "packed rows", refused)?
+            && holds_over::<PlainArchive, R>(rt, &case, file, "ordered maps", refused)?,
     )
 }

@@ -12,7 +12,7 @@ use rr_archive::Cells;
 use rr_base::{Counted, Failing};
 use rr_fakes::pieces::{Pieces, failing_after};
 use rr_fakes::room::{Room, failing_room};
-use rr_gossip::{GossipFault, MAX_FRAMES, give, give_after, pull, pull_within};
+use rr_gossip::{GossipFault, give, give_after, give_within, pull, pull_within};
 use rr_replica::Replica;
 use std::alloc::{AllocError, Global};
 
@@ -95,10 +95,10 @@ fn give_some<A: Cells>(
 ) -> Result<(), GossipFault> {
     match (first, frames) {
         (None, None) => give(alloc, input, output, replica),
-        (None, Some(most)) => give_after(alloc, &[], input, output, replica, u32::from(most)),
-        (Some(first), None) => give_after(alloc, &[first], input, output, replica, MAX_FRAMES),
+        (None, Some(most)) => give_within(alloc, &[], input, output, replica, u32::from(most)),
+        (Some(first), None) => give_after(alloc, first, input, output, replica),
         (Some(first), Some(most)) => {
-            give_after(alloc, &[first], input, output, replica, u32::from(most))
+            give_within(alloc, &[first], input, output, replica, u32::from(most))
         }
     }
 }

@@ -1,11 +1,10 @@
 -- What the values of a configuration's keys are read as.
-use Rattle.std.specs.Prelude.{Bool, ℕ, ◌&&◌, nat_le, not, List, [], ◌∷◌, length, ℤ, pos, negsuc, codes, Option, None, Some, Result, Ok, Err, if◌then◌else◌}
-use Rattle.std.specs.Str.{bytes_eq}
+use Rattle.std.specs.Prelude.{Bool, ℕ, ◌&&◌, nat_le, not, List, [], ◌∷◌, length, ℤ, pos, negsuc, Option, None, Some, Result, Ok, Err, ok_or}
 use Rattle.toml.specs.Data.{Data, Items, no_items, item, as_bool, as_integer, as_str, as_array}
 use Rattle.rr_text.specs.Results.{◌>>=◌, unless}
 use Rattle.rr_text.specs.declared.limits.TheConstants.{MAX_IDLE, MAX_READERS}
 use Rattle.rr_line.specs.declared.precision.Precision.{Precision}
-use Rattle.rr_line.specs.declared.precision.Precision.TheVariants.{Ns, Us, Ms, S}
+use Rattle.rr_line.specs.Precision.{precision_named}
 use Rattle.rr_config.specs.declared.fault.ConfigFault.{ConfigFault}
 use Rattle.rr_config.specs.declared.fault.ConfigFault.TheVariants.{MissingField, WrongKind, BadCount, BadPrecision}
 
@@ -64,15 +63,8 @@ readers_of value = do
   unless BadCount (not (nat_le 1 (length texts) && nat_le (length texts) MAX_READERS)) (Ok texts)
 
 -- the name of a precision
-abbrev pub precision_named : List ℕ → Result Precision ConfigFault
-precision_named name =
-    if bytes_eq name (codes "ns") then Ok Ns
-    else (if bytes_eq name (codes "us") then Ok Us
-    else (if bytes_eq name (codes "ms") then Ok Ms
-    else (if bytes_eq name (codes "s") then Ok S else Err BadPrecision)))
-
 abbrev pub precision_of : Data → Result Precision ConfigFault
-precision_of value = text_of value >>= precision_named
+precision_of value = text_of value >>= λ name. ok_or (precision_named name) BadPrecision
 
 -- a number of seconds from 1 to a day
 abbrev pub seconds_of : Data → Result ℕ ConfigFault

@@ -6,7 +6,7 @@ ghost use Rattle.std.specs.String.{string_bytes};
 ghost use Rattle.toml.specs.Data.{get_member};
 ghost use Rattle.toml.specs.View.{view, table_view, array_view};
 ghost use Rattle.rr_text.specs.Results.{Gives, GivesUnless};
-ghost use Rattle.rr_config.specs.Values.{text_of, flag_of, count_of, texts_in, texts_of, readers_of, precision_named, precision_of, seconds_of};
+ghost use Rattle.rr_config.specs.Values.{text_of, flag_of, count_of, texts_in, texts_of, readers_of, precision_of, seconds_of};
 
 use crate::fault::ConfigFault;
 use rr_line::Precision;
@@ -89,24 +89,11 @@ pub(crate) fn readers_of(alloc: Global, value: &Value) -> Result<Vec<String>, Co
     Ok(texts)
 }
 
-/// The precision of a name.
-fn precision_named(name: &str) -> Result<Precision, ConfigFault>
-    ensures { result ≡ precision_named name.now }
-{
-    match name {
-        "ns" => Ok(Precision::Ns),
-        "us" => Ok(Precision::Us),
-        "ms" => Ok(Precision::Ms),
-        "s" => Ok(Precision::S),
-        _ => Err(ConfigFault::BadPrecision),
-    }
-}
-
 /// A precision, by its name.
 pub(crate) fn precision_of(value: &Value) -> Result<Precision, ConfigFault>
     ensures { result ≡ precision_of (view value.now) }
 {
-    precision_named(text_of(value)?)
+    Precision::named(text_of(value)?).ok_or(ConfigFault::BadPrecision)
 }
 
 /// A number of seconds, from 1 to a day.

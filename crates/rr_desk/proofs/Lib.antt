@@ -6,5 +6,6 @@ pub mod RuleLemmas
 pub mod KeeperStateLemmas
 pub mod GateLemmas
 pub mod PointsLemmas
+pub mod PastHorizonLemmas
 pub mod HistoriesLemmas
 pub mod KeeperHistoriesLemmas

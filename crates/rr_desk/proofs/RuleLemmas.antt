@@ -17,6 +17,7 @@ use Rattle.rr_desk.specs.declared.change.Change.TheVariants.{Edition}
 use Rattle.rr_desk.specs.declared.shown.CopyState.{CopyState}
 use Rattle.rr_desk.specs.Changes.{copy_after, copy_names, front_after, names_at, ops_in}
 use Rattle.rr_desk.specs.Editions.{BookFront, flat}
+use Rattle.rr_desk.specs.Laws.{SeenIsPublished}
 use Rattle.rr_desk.specs.Rule.{newcomer, IsShown, Fits, Keeps, Sees, keeper_of, with_published, telling_of, with_news}
 use Rattle.rr_desk.proofs.PrefixLemmas.{prefix_refl, prefix_append, prefix_trans, prefix_nil, prefix_of_nil}
 use Rattle.rr_desk.proofs.ChangesLemmas.{changes-front, changes-held, changes-names, changes-started}
@@ -325,3 +326,11 @@ merges seat v other w x views k at apart there =
       each = set_fits x k.list k.writer (set views seat (with_news v w)) other newcomer (λ j u ne e. first j u e)
           (newcomer_fits x k.list k.writer other);
     }
+
+-- ---- what readers have seen
+
+pub seen_is_published : SeenIsPublished
+seen_is_published x views seat writer v w keeps at writes_at writes =
+    let mine = keeps.each seat v at in
+    let all = (keeps.each writer w writes_at).writes writes in
+    subst (IsPrefix v.seen) (sym all.all) mine.seen

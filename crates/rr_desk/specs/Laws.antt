@@ -1,7 +1,9 @@
 -- The laws of a desk, each the contract of a function of `src/laws.rt`.
-use Rattle.std.specs.Prelude.{◌≡◌, ◌≢◌, ℕ, ◌+◌, ◌≤◌, ℤ, List, [], ◌∷◌, ◌++◌, length, All, fold, Some, Ok}
+use Rattle.std.specs.Prelude.{◌≡◌, ◌≢◌, ℕ, ◌+◌, ◌≤◌, ℤ, true, List, [], ◌∷◌, ◌++◌, length, All, fold, Some, Ok}
 use Rattle.std.specs.FinMap.{entries, len}
 use mathlib.Core.List.{IsPrefix}
+use mathlib.Core.Option.{some}
+use lib.ListN.{get_elem?}
 use Rattle.logbook.specs.Pages.{Book}
 use Rattle.rr_text.specs.declared.limits.TheConstants.{MAX_NUMBER}
 use Rattle.rr_schema.specs.Schema.{Layout, IsLayout}
@@ -30,6 +32,9 @@ use Rattle.rr_snapshot.specs.Snapshot.{snapshot_text}
 use Rattle.rr_cells.specs.Raising.{raised_knowledge}
 use Rattle.rr_snapshot.specs.Loading.{loaded_at}
 use Rattle.rr_desk.specs.Points.{with_put, with_puts}
+use Rattle.rr_desk.specs.declared.rule.View.{View}
+use Rattle.rr_desk.specs.declared.shown.CopyState.{CopyState}
+use Rattle.rr_desk.specs.Rule.{Keeps}
 use Rattle.rr_desk.specs.Histories.{HistoryStep, elsewhere, put, joined, HistoryState, Knows, IsHistory, HasHistory, IsHonest, IsWhole, AreHonest, list_of, ops_of, scene_after}
 
 -- a replica that takes samples of its own, and whole cells of closed knowledges, goes on to have the cells of a
@@ -139,3 +144,12 @@ RaisedIsKnown =
     → (new : ReplicaState) × (loaded_at s origin (snapshot_text latest h.schema h.origin (entries h.cells)) ≡ Ok new)
     × (new.schema ≡ s)
     × Knows new (record { world = z.world; known = raised_knowledge a z.known })
+
+-- ---- the rule of the two copies
+
+-- at each moment each seat has seen a beginning of what the keeper has published, which it has all seen
+abbrev pub SeenIsPublished : Type 0
+SeenIsPublished =
+    (x : CopyState) (views : List View) (seat writer : ℕ) (v w : View) → Keeps x views
+    → get_elem? views seat ≡ some v → get_elem? views writer ≡ some w → w.writes ≡ true
+    → IsPrefix v.seen w.seen

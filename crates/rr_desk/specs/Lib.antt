@@ -6,6 +6,7 @@ pub mod Writers
 pub mod ReaderState
 pub mod Joining
 pub mod Points
+pub mod PastHorizon
 pub mod Fault
 pub mod Gate
 pub mod Histories

@@ -1,6 +1,8 @@
 //! The keeper of a desk, which alone writes.
 ghost use Rattle.std.specs.Prelude.{◌≡◌, ◌<◌, ◌↔◌, Err, map, take, drop};
 ghost use Rattle.std.specs.FinMap.{entries, len};
+ghost use Rattle.std.specs.Io.KnownBytes.{Keeps};
+ghost use Rattle.rr_io.specs.Counted.{inner_of};
 ghost use Rattle.rr_cells.specs.CellBounds.{IsCellOf};
 ghost use Rattle.rr_cells.specs.ReplicaState.{IsReplicaState};
 ghost use Rattle.rr_cells.specs.Listing.{at_most_usize, owned_cell};
@@ -14,6 +16,7 @@ ghost use Rattle.rr_page.specs.Version.{latest};
 ghost use Rattle.rr_snapshot.specs.Saving.{Saves};
 ghost use Rattle.rr_snapshot.specs.Snapshot.{snapshot_text};
 ghost use Rattle.rr_snapshot.specs.declared.heading.TheConstants.{MAX_SNAPSHOT_CELLS};
+ghost use Rattle.rr_desk.specs.PastHorizon.{past_horizon_of};
 ghost use Rattle.rr_desk.specs.Points.{with_put};
 ghost use Rattle.rr_desk.specs.KeeperState.{cells_of, own_replica, with_all_published, with_pending};
 ghost use Rattle.rr_replica.specs.Becomes.{Becomes};
@@ -21,7 +24,6 @@ ghost use Rattle.rr_replica.specs.Calls.{PutsNext};
 
 use crate::change::Change;
 use crate::copies::Copies;
-use crate::horizon::Horizon;
 use crate::note::Note;
 use crate::order::Order;
 use crate::shown::{CopyState, Shown};
@@ -52,18 +54,23 @@ where
     /// Where key texts of points are written, one over the other.
     pub(crate) text: Vec<u8>,
     pub(crate) order: Order,
-    pub(crate) horizon: Horizon,
+    /// How many samples no archive kept.
+    pub(crate) past: u64,
 }
 
 impl<A: Cells> Model for Keeper<A>
 where
     Shown<A>: Absorb<Change, State = CopyState>,
 {
+    ghost use Rattle.std.specs.Prelude.{◌≡◌};
     ghost use Rattle.rr_desk.specs.KeeperState.{KeeperState};
+    ghost use Rattle.rr_desk.specs.PastHorizon.{past_horizon_of};
 
     ghost Value = { KeeperState };
 
     ghost view = { λ k. k.copies };
+
+    ghost invariant = { λ k. k.past ≡ past_horizon_of k.copies };
 }
 
 impl<A: Cells> Keeper<A> {
@@ -136,13 +143,10 @@ impl<A: Cells> Keeper<A> {
             time,
             value,
         };
-        let is_kept = self.horizon.is_within(time) || self.keeps(&sample.key, time);
+        let is_kept = self.copies.replica().keeps_near(hint, &sample.key, time);
         self.copies.push(hint, Op::Put(sample))?;
         self.order.note(hint);
-        self.horizon.note(time);
-        if !is_kept {
-            self.horizon.count();
-        }
+        self.past = self.past.saturating_add(u64::from(!is_kept));
         Ok(number)
     }
 
@@ -154,9 +158,12 @@ impl<A: Cells> Keeper<A> {
     }
 
     /// How many samples were put since the desk was opened of which [`Keeper::keeps`] was false
-    /// then: they left no trace but their numbers. No contract says how many.
-    pub fn past_horizon(&self) -> u64 {
-        self.horizon.past()
+    /// then: they left no trace but their numbers. The greatest value of the type, if there were
+    /// more.
+    pub fn past_horizon(&self) -> u64
+        ensures { result ≡ past_horizon_of self.now }
+    {
+        self.past
     }
 
     /// Where the series is that is likely to be put to next: the one that came after the last one
@@ -187,7 +194,6 @@ impl<A: Cells> Keeper<A> {
             .replica()
             .known_key_near(Hint::none(), &cell.key)?;
         self.copies.push(hint, Op::Join(cell.copy()?))?;
-        self.horizon.note(cell.contribution.last_time);
         Ok(())
     }
 
@@ -218,13 +224,15 @@ impl<A: Cells> Keeper<A> {
     }
 
     /// Writes the cells of all operations, pending ones too, as a snapshot: see
-    /// `rr_snapshot::save`, whose cost it has.
+    /// `rr_snapshot::save`, whose refusals and cost it has.
     pub fn save<W: Write>(&self, alloc: Global, output: &mut Counted<W>) -> Result<(), SaveFault>
         ensures saves { Saves W.contents output.old output.new
             (snapshot_text latest self.now.schema self.now.origin (entries (cells_of self.now)))
             result }
         ensures too_many { (result ≡ Err SaveFault.TooManyCells)
             ↔ (MAX_SNAPSHOT_CELLS < len (cells_of self.now)) }
+        ensures nothing_written { result ≡ Err SaveFault.TooManyCells
+            → Keeps (W.contents (inner_of output.old)) (W.contents (inner_of output.new)) }
     {
         rr_snapshot::save(alloc, self.copies.replica(), output)
     }
@@ -259,7 +267,7 @@ impl<A: Cells> Keeper<A> {
             copies,
             text: _,
             order: _,
-            horizon: _,
+            past: _,
         } = self;
         copies.close(rt)
     }

@@ -1,5 +1,5 @@
 //! The laws of a desk, with no work to do: the functions have empty bodies.
-ghost use Rattle.rr_desk.specs.Laws.{OperationsAreKnown, ListsAreKnown, BeginningsAreHistories, AnswersAreOfSamples, CellsGivenAreWhole, CellsSavedAreWhole, OpeningIsHistory, PutIsATurn, WriteIsTurns, JoinIsATurn, PublishIsNoTurn, OthersWrite, LoadedIsKnown, RaisedIsKnown};
+ghost use Rattle.rr_desk.specs.Laws.{OperationsAreKnown, ListsAreKnown, BeginningsAreHistories, AnswersAreOfSamples, CellsGivenAreWhole, CellsSavedAreWhole, OpeningIsHistory, PutIsATurn, WriteIsTurns, JoinIsATurn, PublishIsNoTurn, OthersWrite, LoadedIsKnown, RaisedIsKnown, SeenIsPublished};
 
 /// A desk is opened with a replica whose cells are those of a knowledge without gaps that has all
 /// marks of its own origin. Its keeper puts samples of its own, and joins whole live cells of such
@@ -36,4 +36,10 @@ pub fn keepers_have_histories()
 pub fn loaded_nodes_are_known()
     ensures loaded { LoadedIsKnown }
     ensures raised { RaisedIsKnown }
+{}
+
+/// Under the rule of the two copies each reader has seen, at each moment, a beginning of what its
+/// keeper has published then.
+pub fn what_is_seen_is_published()
+    ensures { SeenIsPublished }
 {}

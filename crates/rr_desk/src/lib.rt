@@ -27,7 +27,6 @@ mod change;
 mod copies;
 mod fault;
 mod gate;
-mod horizon;
 mod keeper;
 pub mod laws;
 mod naming;

@@ -13,7 +13,6 @@ ghost use Rattle.rr_desk.specs.declared.fault.OpenFault.TheVariants.{BadCount};
 use crate::book::Editions;
 use crate::copies::Copies;
 use crate::fault::OpenFault;
-use crate::horizon::Horizon;
 use crate::keeper::Keeper;
 use crate::order::Order;
 use crate::read_handle::{Seat, look};
@@ -122,13 +121,12 @@ pub fn open<A: Cells, R: Wait>(
     let _schema = replica.schema();
     match begin(alloc, rt, &replica, readers) {
         Ok((writer, book, all)) => {
-            let horizon = Horizon::of(&replica);
             let keeper = Keeper {
                 alloc,
                 copies: Copies::new(alloc, writer, replica, book),
                 text: Vec::new(alloc),
                 order: Order::new(alloc),
-                horizon,
+                past: 0,
             };
             Ok((keeper, all))
         }

@@ -2,11 +2,13 @@
 
 ghost use Rattle.std.specs.Prelude.{◌≡◌, ◌*◌, ◌<◌, ◌≤◌, ◌+◌, ◌+ℤ◌, ◌*ℤ◌, pos, unsigned_abs, [], ◌∷◌, length, Err, IfOk, IfSome, OnOk, MatchOption};
 ghost use Rattle.std.specs.FinMap.{empty};
+ghost use Rattle.std.specs.Vec.{vec_capacity};
 ghost use Rattle.rr_io.specs.Stream.{HasFailed, KeepsFailures, WritesFront, WritesWhole};
 ghost use Rattle.rr_archive.specs.Cells.{ArchiveCells, row_of};
 ghost use Rattle.rr_fetch.specs.Answers.{cells_text};
 ghost use Rattle.rr_fetch.specs.Consolidation.{consolidation_of, IsRow};
 ghost use Rattle.rr_fetch.specs.Requests.{request_view, IsFetchable};
+ghost use Rattle.rr_fetch.specs.declared.record.TheConstants.{MAX_REST};
 
 use crate::consolidation::{consolidate, consolidate_one};
 use crate::fault::AnswerFault;
@@ -98,6 +100,15 @@ fn value_at<A: Cells>(
     Ok((value, near))
 }
 
+/// A text with room for as many rows, of the longest records behind what each begins with.
+fn text_for(alloc: Global, front: &[u8], rows: u32) -> Result<Vec<u8>, AllocError>
+    ensures empty { IfOk result (λ text. text.items ≡ []) }
+    ensures room { IfOk result (λ text. vec_capacity text ≤ (length front.now + MAX_REST) * rows) }
+{
+    let room = (front.len() + MAX_REST).saturating_mul(rows as usize);
+    Vec::with_capacity(alloc, room)
+}
+
 /// The answer to a request as CSV: for each row a record of the key text, the start second and the
 /// value, or `U` for an unknown one, ended by a line feed.
 ///
@@ -119,8 +130,7 @@ pub fn answer_text<A: Cells>(
     let span = schema.span(request.archive);
     let archive = replica.archive(&request.key, request.archive);
     let front = front_of(alloc, request.key.text())?;
-    let room = (front.len() + MAX_REST).saturating_mul(request.rows as usize);
-    let mut text = Vec::with_capacity(alloc, room)?;
+    let mut text = text_for(alloc, &front, request.rows)?;
     let mut rest = [0; MAX_REST];
     let mut entries = Vec::new(alloc);
     let mut near = 0;

@@ -23,6 +23,33 @@ pub struct RequestWords<'a> {
     pub(crate) key: &'a [u8],
 }
 
+impl<'a> RequestWords<'a> {
+    /// The words of a request that stand apart already.
+    pub fn new(
+        function: &'a [u8],
+        resolution: &'a [u8],
+        start: &'a [u8],
+        end: &'a [u8],
+        key: &'a [u8],
+    ) -> RequestWords<'a>
+        ensures { parts result ≡ record {
+          function = function.now;
+          resolution = resolution.now;
+          start = start.now;
+          end = end.now;
+          key = key.now;
+        } }
+    {
+        RequestWords {
+            function,
+            resolution,
+            start,
+            end,
+            key,
+        }
+    }
+}
+
 /// Cuts a request into its words; `None` where there are fewer than five.
 #[tactic(auto, unfolding(crate::specs::Words::words_of))]
 pub fn request_words(bytes: &[u8]) -> Option<RequestWords<'_>>

@@ -1,5 +1,5 @@
 -- The side that gives, over streams: the frames that it sends, and a whole session.
-use Rattle.std.proofs.Common.{◌≡◌, ◌⊎◌, inl, inr, ℕ, ◌+◌, ◌<◌, Bool, true, false, List, [], ◌∷◌, ◌++◌, length, map, take, drop, Option, None, Some, Result, Ok, Err, refl, sym, ap, subst, ◌∙◌, append_assoc, arith}
+use Rattle.std.proofs.Common.{◌≡◌, ◌⊎◌, inl, inr, ℕ, ◌+◌, ◌<◌, ◌≤◌, Bool, true, false, List, [], ◌∷◌, ◌++◌, length, map, take, drop, Option, None, Some, Result, Ok, Err, refl, sym, ap, subst, ◌∙◌, append_assoc, arith}
 use Rattle.std.specs.Prelude.{nat_le, ◌&&◌, is_some, OnOk, IfErr}
 use Rattle.std.specs.FinMap.{entries}
 use Rattle.std.specs.Io.KnownBytes.{Appends}
@@ -81,6 +81,7 @@ pub record Replies (all : List (List ℕ)) (limit : ℕ) (g : Giver) (before : L
   pub all_are : all ≡ before ++ reply_left g.stage
   pub count : g.sent ≡ length before
   pub limit_is : g.limit ≡ limit
+  pub few : length before ≤ limit
 
 abbrev after_stage : Giver → Stage × Option (List ℕ) → Result (Giver × Option (List ℕ)) GossipFault
 after_stage g next = unless why.TooManyFrames (is_some next.1 && nat_le g.limit g.sent)
@@ -116,7 +117,13 @@ giver_step g q o going e =
     (record { stage = stage_step g.stage next going a.1; count = refl; limit = refl; room = b.0 })
 
 pub first_replies : (g : Giver) → is_giving g.stage ≡ true → g.sent ≡ 0 → Replies (reply_left g.stage) g.limit g []
-first_replies g giving none = record { going = by_stage g.stage giving; all_are = refl; count = none; limit_is = refl }
+first_replies g giving none = record {
+  going = by_stage g.stage giving;
+  all_are = refl;
+  count = none;
+  limit_is = refl;
+  few = omega arith;
+}
   where
     by_stage : (stage : Stage) → is_giving stage ≡ true → is_replying stage ≡ true
     by_stage Opening e = absurd cc
@@ -131,6 +138,7 @@ pub record OneReplied (all : List (List ℕ)) (limit : ℕ) (g q : Giver) (befor
   pub left : List (List ℕ)
   pub all_are : all ≡ before ++ frame ∷ left
   pub room : g.sent < g.limit
+  pub few : length before < limit
   pub count : q.sent ≡ g.sent + 1
   pub limit_is : q.limit ≡ g.limit
 
@@ -141,16 +149,20 @@ one_replied all limit g q before frame replies e =
     let left = reply_left q.stage in
     let are : all ≡ before ++ frame ∷ left = replies.all_are ∙ ap (λ l. before ++ l) step.stage.0 in
     let count : q.sent ≡ g.sent + 1 = step.count in
+    let room = leb-false g.limit g.sent step.room in
+    let few : length before < limit = omega (arith, room, replies.count, replies.limit_is) in
     record {
       replies = record {
         going = step.stage.1;
         all_are = are ∙ sym (append_assoc before (frame ∷ []) left);
         count = omega (arith, count, replies.count, length-append before (frame ∷ []));
         limit_is = step.limit ∙ replies.limit_is;
+        few = omega (arith, few, length-append before (frame ∷ []));
       };
       left = left;
       all_are = are;
-      room = leb-false g.limit g.sent step.room;
+      room = room;
+      few = few;
       count = count;
       limit_is = step.limit;
     }
@@ -212,19 +224,22 @@ module _ (limit : ℕ) (s : Layout) (m : Cells) (before : List ℕ) (had left wr
   answer : reply_left last.stage ≡ replied_by s heard.names m
   answer = answer_left s heard.names m last.stage heard.giving
 
-  pub gave : {A : Type 0} (r : Result A GossipFault) → OnOk r (Appends wrote written (concat (reply_left last.stage)))
+  pub gave : {A : Type 0} (r : Result A GossipFault) → last.limit ≡ limit
+      → OnOk r (length (reply_left last.stage) ≤ last.limit)
+      → OnOk r (Appends wrote written (concat (reply_left last.stage)))
       → OnOk r (HasGiven limit s m before had left wrote written)
-  gave (Ok x) sent = record {
+  gave (Ok x) same few sent = record {
     last = last;
     heard = heard;
+    few = omega (arith, few, same, ap length answer);
     replied =
         subst (λ (frames : List (List ℕ)). Appends wrote written (concat frames)) answer sent;
   }
-  gave (Err fault) sent = tt
+  gave (Err fault) same few sent = tt
 
   pub failed_to_reply : {A : Type 0} (r : Result A GossipFault) → last.limit ≡ limit
       → IfErr r (CannotSend last.limit (reply_left last.stage))
-      → AppendsPrefix wrote written (concat (reply_left last.stage))
+      → AppendsPrefix wrote written (concat (take last.limit (reply_left last.stage)))
       → IfErr r (HasFailedToGive limit s m before had left wrote written)
   failed_to_reply (Ok x) same why front = tt
   failed_to_reply (Err fault) same why front =
@@ -233,5 +248,6 @@ module _ (limit : ℕ) (s : Layout) (m : Cells) (before : List ℕ) (had left wr
         heard = heard;
         why = subst (λ (frames : List (List ℕ)). CannotSend limit frames fault) answer
             (subst (λ (n : ℕ). CannotSend n (reply_left last.stage) fault) same why);
-        front = subst (λ (frames : List (List ℕ)). AppendsPrefix wrote written (concat frames)) answer front;
+        front = subst (λ (frames : List (List ℕ)). AppendsPrefix wrote written (concat (take limit frames))) answer
+            (subst (λ (n : ℕ). AppendsPrefix wrote written (concat (take n (reply_left last.stage)))) same front);
       })

@@ -1,9 +1,10 @@
 -- Frames that are sent, one after the other.
-use Rattle.std.proofs.Common.{◌≡◌, ◌⊎◌, inl, inr, ℕ, zero, suc, ◌+◌, ◌<◌, ◌≤◌, Bool, true, false, List, [], ◌∷◌, ◌++◌, length, map, take, drop, Option, None, Some, Result, Ok, Err, refl, sym, ap, subst, ◌∙◌, append_assoc, arith}
+use Rattle.std.proofs.Common.{◌≡◌, ◌⊎◌, inl, inr, ℕ, zero, suc, ◌+◌, ◌-◌, ◌<◌, ◌≤◌, Bool, true, false, List, [], ◌∷◌, ◌++◌, length, map, take, drop, Option, None, Some, Result, Ok, Err, refl, sym, ap, subst, ◌∙◌, append_assoc, arith}
 use Rattle.std.specs.Prelude.{nat_le, ◌&&◌, is_some}
 use Rattle.std.specs.FinMap.{entries}
 use Rattle.std.specs.Io.KnownBytes.{Appends}
 use Rattle.std.specs.List.{concat}
+use Rattle.std.proofs.Math.Seq.{take-append-add}
 use Rattle.std.proofs.lemmas.Bool.{leb-false, leb-true}
 use Rattle.std.proofs.lemmas.List.{append-nil, length-append, length-drop}
 use Rattle.std.proofs.lemmas.List.Folds.{concat-append}
@@ -32,21 +33,36 @@ use Rattle.rr_gossip.specs.Transcript.{cut, pieces, frames_of_names, waiting}
 use Rattle.rr_gossip.proofs.SentLemmas.{name_in, next_left}
 use Rattle.rr_gossip.proofs.StepLemmas.{bind_ok, unless_ok, ok_is, err_is}
 
--- ---- a row of frames, of which some are written
+-- ---- a row of frames, of which some are written, at most so many
+
+-- the first of a list are among its first ones
+first_of : {X : Type 0} (n : ℕ) (before left : List X) → length before ≤ n
+    → (rest : List X) × (take n (before ++ left) ≡ before ++ rest)
+first_of n before left few =
+    let k = n - length before in
+    let is : length before + k ≡ n = omega (arith, few) in
+    (take k left, ap (λ m. take m (before ++ left)) (sym is) ∙ take-append-add before left k)
 
 -- those before a frame are, and a front of it
-pub frames_front : (a b c : Option (List ℕ)) (all before left : List (List ℕ)) (frame : List ℕ)
-    → all ≡ before ++ frame ∷ left → Appends a b (concat before) → AppendsPrefix b c frame
-    → AppendsPrefix a c (concat all)
-frames_front a b c all before left frame is done part =
-    subst (AppendsPrefix a c) (append_assoc (concat before) frame (concat left)
-    ∙ sym (concat-append before (frame ∷ left)) ∙ ap concat (sym is))
-    (prefix_before a c (concat before ++ frame) (concat left) (prefix_after a b c (concat before) frame done part))
+pub frames_front : (a b c : Option (List ℕ)) (n : ℕ) (all before left : List (List ℕ)) (frame : List ℕ)
+    → all ≡ before ++ frame ∷ left → length before < n → Appends a b (concat before) → AppendsPrefix b c frame
+    → AppendsPrefix a c (concat (take n all))
+frames_front a b c n all before left frame is few done part =
+    let one = before ++ frame ∷ [] in
+    let first = first_of n one left (omega (arith, few, length-append before (frame ∷ []))) in
+    let rest = first.0 in
+    let are : take n all ≡ before ++ frame ∷ rest =
+    ap (take n) (is ∙ sym (append_assoc before (frame ∷ []) left)) ∙ first.1
+    ∙ append_assoc before (frame ∷ []) rest in
+    subst (AppendsPrefix a c) (append_assoc (concat before) frame (concat rest)
+    ∙ sym (concat-append before (frame ∷ rest)) ∙ ap concat (sym are))
+    (prefix_before a c (concat before ++ frame) (concat rest) (prefix_after a b c (concat before) frame done part))
 
-pub frames_before : (a b : Option (List ℕ)) (all before left : List (List ℕ)) → all ≡ before ++ left
-    → Appends a b (concat before) → AppendsPrefix a b (concat all)
-frames_before a b all before left is done =
-    (concat before, concat left, ap concat is ∙ concat-append before left, done)
+pub frames_before : (a b : Option (List ℕ)) (n : ℕ) (all before left : List (List ℕ)) → all ≡ before ++ left
+    → length before ≤ n → Appends a b (concat before) → AppendsPrefix a b (concat (take n all))
+frames_before a b n all before left is few done =
+    let first = first_of n before left few in
+    (concat before, concat first.0, ap concat (ap (take n) is ∙ first.1) ∙ concat-append before first.0, done)
 
 -- all of them are
 pub frames_whole : (a b : Option (List ℕ)) (all before : List (List ℕ)) → all ≡ before → Appends a b (concat before)
@@ -140,6 +156,7 @@ module _ (m : Cells) (s : Layout) where
     pub count : p.sent ≡ length before
     pub none_taken : p.taken ≡ 0
     pub limit_is : p.limit ≡ limit
+    pub few : length before ≤ limit
 
   abbrev after_stage : Puller → Stage × Option (List ℕ) → Result (Puller × Option (List ℕ)) GossipFault
   after_stage p next = unless TooManyFrames (is_some next.1 && nat_le p.limit p.sent)
@@ -182,6 +199,7 @@ module _ (m : Cells) (s : Layout) where
     count = ap (λ (y : Puller). y.sent) is;
     none_taken = ap (λ (y : Puller). y.taken) is;
     limit_is = refl;
+    few = omega arith;
   }
 
   pub record OneSent (limit : ℕ) (p q : Puller) (before : List (List ℕ)) (frame : List ℕ) : Type 0 where
@@ -189,6 +207,7 @@ module _ (m : Cells) (s : Layout) where
     pub left : List (List ℕ)
     pub all : sent_by s m ≡ before ++ frame ∷ left
     pub room : p.sent < p.limit
+    pub few : length before < limit
     pub count : q.sent ≡ p.sent + 1
     pub limit_is : q.limit ≡ p.limit
 
@@ -199,6 +218,8 @@ module _ (m : Cells) (s : Layout) where
       let left = stage_left m s q.stage in
       let all : sent_by s m ≡ before ++ frame ∷ left = sends.all ∙ ap (λ l. before ++ l) step.stage.0 in
       let count : q.sent ≡ p.sent + 1 = step.count in
+      let room = leb-false p.limit p.sent step.room in
+      let few : length before < limit = omega (arith, room, sends.count, sends.limit_is) in
       record {
         sends = record {
           going = step.stage.1;
@@ -206,10 +227,12 @@ module _ (m : Cells) (s : Layout) where
           count = omega (arith, count, sends.count, length-append before (frame ∷ []));
           none_taken = step.taken ∙ sends.none_taken;
           limit_is = step.limit ∙ sends.limit_is;
+          few = omega (arith, few, length-append before (frame ∷ []));
         };
         left = left;
         all = all;
-        room = leb-false p.limit p.sent step.room;
+        room = room;
+        few = few;
         count = count;
         limit_is = step.limit;
       }

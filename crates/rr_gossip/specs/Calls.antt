@@ -1,6 +1,6 @@
 -- What a call that pulls or gives over streams has done once it returns: what was read and written, and when a stream
 -- is to blame.
-use Rattle.std.specs.Prelude.{◌≡◌, ◌≤◌, ◌<◌, ℕ, Bool, true, IsTrue, List, length, Option, Result, Err, OnOk, OnErr, IfErr}
+use Rattle.std.specs.Prelude.{◌≡◌, ◌≤◌, ◌<◌, ℕ, Bool, true, IsTrue, List, length, take, Option, Result, Err, OnOk, OnErr, IfErr}
 use Rattle.std.specs.Io.KnownBytes.{Appends, IsAtEnd}
 use Rattle.std.specs.List.{concat}
 use Rattle.rr_text.specs.Results.{GivesUnless}
@@ -32,11 +32,12 @@ pub record ReadsBytes {R : Type 0} (remaining : R → Option (List ℕ)) (old ne
   pub read : OnOk result (Grows (remaining (inner_of old)) (remaining (inner_of new)) before after)
   pub stream : TakesFrames remaining old new result
 
--- what a call did with the writer that it sends frames to: all of them are one text
-pub record SendsFrames {W : Type 0} (contents : W → Option (List ℕ)) (old new : Counted W) (text : List ℕ)
-    (result : Result (Unit {0}) GossipFault) : Type 0 where
-  pub whole : OnOk result (WritesWhole contents old new text)
-  pub front : WritesFront contents old new text
+-- what a call did with the writer that it sends these frames to, and at most `limit` of them
+pub record SendsFrames {W : Type 0} (contents : W → Option (List ℕ)) (old new : Counted W) (limit : ℕ)
+    (frames : List (List ℕ)) (result : Result (Unit {0}) GossipFault) : Type 0 where
+  pub whole : OnOk result (WritesWhole contents old new (concat frames))
+  pub few : OnOk result (length frames ≤ limit)
+  pub front : WritesFront contents old new (concat (take limit frames))
   pub flushed : OnOk result (is_flushed new ≡ true)
   pub failures_never_fall : KeepsFailures old new
   pub failed : result ≡ Err WriteFailed → HasFailed old new
@@ -107,7 +108,9 @@ pub record Pulls {R W : Type 0} (remaining : R → Option (List ℕ)) (contents 
     (output output_new : Counted W) (result : Result (Unit {0}) GossipFault) : Type 0 where
   -- what is sent
   pub sent : OnOk result (Appends (contents (inner_of output)) (contents (inner_of output_new)) (concat (sent_by s m)))
-  pub front : AppendsPrefix (contents (inner_of output)) (contents (inner_of output_new)) (concat (sent_by s m))
+  pub few : OnOk result (length (sent_by s m) ≤ limit)
+  pub front : AppendsPrefix (contents (inner_of output)) (contents (inner_of output_new))
+      (concat (take limit (sent_by s m)))
   pub flushed : OnOk result (is_flushed output_new ≡ true)
   -- what is read, and which cells are joined, one by one and in order
   pub pulled : OnOk result ((cells : List NamedCell) × joined cells

@@ -1,5 +1,5 @@
 -- What a side of a session over streams has done once its call returns.
-use Rattle.std.specs.Prelude.{◌≡◌, ◌⊎◌, ℕ, ◌<◌, Bool, true, false, List, [], ◌++◌, length, drop, Option, Some, Ok, All}
+use Rattle.std.specs.Prelude.{◌≡◌, ◌⊎◌, ℕ, ◌<◌, ◌≤◌, Bool, true, false, List, [], ◌++◌, length, take, drop, Option, Some, Ok, All}
 use Rattle.std.specs.FinMap.{entries}
 use Rattle.std.specs.Io.KnownBytes.{Appends}
 use Rattle.std.specs.List.{concat}
@@ -68,12 +68,13 @@ pub record HasNotSent (limit : ℕ) (s : Layout) (m : Cells) (had left : Option 
   pub unread : left ≡ had
   pub none : cells ≡ []
 
--- a pull of a session of at most so many frames failed: before all was sent, or else among the pages
+-- a pull in a session of at most so many frames failed: before all was sent, or else, with all sent within that limit,
+-- among the pages
 abbrev pub HasFailedToPull : ℕ → Layout → Cells → Option (List ℕ) → Option (List ℕ) → Option (List ℕ) → Option (List ℕ)
     → GossipFault → List NamedCell → Type 0
 HasFailedToPull limit s m had left wrote written fault cells =
     HasNotSent limit s m had left fault cells
-    ⊎ (Appends wrote written (concat (sent_by s m))
+    ⊎ ((length (sent_by s m) ≤ limit) × Appends wrote written (concat (sent_by s m))
     × HasStoppedPulling s (waiting (length (sent_by s m)) 0 limit) had left fault cells)
 
 -- ---- the side that gives
@@ -118,20 +119,21 @@ pub record HasStoppedHearing (s : Layout) (m : Cells) (first : Giver) (before : 
   pub taken : giver_after m s first (contents frames) ≡ Ok last
   pub stopped : Stops (giver_takes m s last) piece fault
 
--- in a session of at most so many frames it heard all names, and wrote the answer to them
+-- in a session of at most so many frames it heard all names, and wrote the answer to them, of no more frames than that
 pub record HasGiven (limit : ℕ) (s : Layout) (m : Cells) (before : List ℕ)
     (had left wrote written : Option (List ℕ)) : Type 0 where
   pub last : Giver
   pub heard : HasHeard s m (first_giver limit) last before had left
+  pub few : length (replied_by s heard.names m) ≤ limit
   pub replied : Appends wrote written (concat (replied_by s heard.names m))
 
--- it heard all names, and wrote a front of the answer to them
+-- it heard all names, and wrote a front of the answer to them, of no more frames than the session may have
 pub record HasNotReplied (limit : ℕ) (s : Layout) (m : Cells) (before : List ℕ)
     (had left wrote written : Option (List ℕ)) (fault : GossipFault) : Type 0 where
   pub last : Giver
   pub heard : HasHeard s m (first_giver limit) last before had left
   pub why : CannotSend limit (replied_by s heard.names m) fault
-  pub front : AppendsPrefix wrote written (concat (replied_by s heard.names m))
+  pub front : AppendsPrefix wrote written (concat (take limit (replied_by s heard.names m)))
 
 -- it failed: among the names, and wrote nothing, or else among the pages
 abbrev pub HasFailedToGive : ℕ → Layout → Cells → List ℕ → Option (List ℕ) → Option (List ℕ) → Option (List ℕ)

@@ -1,6 +1,5 @@
 //! The answer to a pull, over streams.
-ghost use Rattle.std.specs.Prelude.{◌≡◌, ◌≤◌, [], IfErr, IsTrue, length};
-ghost use Rattle.std.specs.List.{concat};
+ghost use Rattle.std.specs.Prelude.{◌≡◌, ◌≤◌, ◌∷◌, [], IfErr, IsTrue, length};
 ghost use Rattle.rr_gossip.specs.declared.frame.TheConstants.{MAX_FRAMES};
 ghost use Rattle.rr_gossip.specs.Calls.{Gives, HearsNames, SendsFrames};
 ghost use Rattle.rr_gossip.specs.Session.{CannotSend, is_giving, reply_left};
@@ -48,8 +47,8 @@ fn send_pages<S: Source, W: Write>(
 ) -> Result<(), GossipFault>
     requires giving { IsTrue (is_giving giver.old.stage) }
     requires fresh { giver.old.sent ≡ 0 }
-    ensures sent { SendsFrames W.contents output.old output.new
-        (concat (reply_left giver.old.stage)) result }
+    ensures sent { SendsFrames W.contents output.old output.new giver.old.limit
+        (reply_left giver.old.stage) result }
     ensures refused { IfErr result (CannotSend giver.old.limit (reply_left giver.old.stage)) }
     ensures unchanged { source.new ≡ source.old }
 {
@@ -82,12 +81,26 @@ pub fn give<S: Source, R: Read, W: Write>(
     ensures session { Gives R.remaining W.contents MAX_FRAMES S.layout S.cells S.may_become
         [] source.old source.new input.old input.new output.old output.new result }
 {
-    give_after(alloc, &[], input, output, source, MAX_FRAMES)
+    give_within(alloc, &[], input, output, source, MAX_FRAMES)
 }
 
-/// Gives as [`give`] does, at its cost, after bytes of the first frame's length that are read
-/// already, in a session of at most `frames` frames each way.
+/// Gives as [`give`] does, at its cost, where the first byte of the session is read already.
 pub fn give_after<S: Source, R: Read, W: Write>(
+    alloc: Global,
+    first: u8,
+    input: &mut Counted<R>,
+    output: &mut Counted<W>,
+    source: &mut S,
+) -> Result<(), GossipFault>
+    ensures session { Gives R.remaining W.contents MAX_FRAMES S.layout S.cells S.may_become
+        (first ∷ []) source.old source.new input.old input.new output.old output.new result }
+{
+    give_within(alloc, &[first], input, output, source, MAX_FRAMES)
+}
+
+/// Gives as [`give`] does, at its cost, in a session of at most `frames` frames each way. The bytes
+/// before the input, at most the four of the first frame's length, are read already.
+pub fn give_within<S: Source, R: Read, W: Write>(
     alloc: Global,
     before: &[u8],
     input: &mut Counted<R>,

@@ -35,7 +35,7 @@ mod summary;
 pub use fault::GossipFault;
 pub use frame::{Kind, MAX_FRAME_LEN, MAX_FRAMES, content_of, frame_bytes};
 pub use giver::Giver;
-pub use giving::{give, give_after};
+pub use giving::{give, give_after, give_within};
 pub use puller::Puller;
 pub use pulling::{pull, pull_within};
 pub use rr_delta::{Source, Target};

@@ -1,6 +1,5 @@
 //! A pull over streams.
 ghost use Rattle.std.specs.Prelude.{◌≡◌, List, IfErr, OnOk, length};
-ghost use Rattle.std.specs.List.{concat};
 ghost use Rattle.rr_cells.specs.CellBounds.{NamedCell};
 ghost use Rattle.rr_io.specs.Counted.{inner_of};
 ghost use Rattle.rr_gossip.specs.declared.frame.TheConstants.{MAX_FRAMES};
@@ -27,8 +26,8 @@ fn send_names<T: Target, W: Write>(
     target: &T,
 ) -> Result<(), GossipFault>
     requires { puller.old ≡ first_puller puller.old.limit }
-    ensures sent { SendsFrames W.contents output.old output.new
-        (concat (sent_by (T.layout target.now) (T.cells target.now))) result }
+    ensures sent { SendsFrames W.contents output.old output.new puller.old.limit
+        (sent_by (T.layout target.now) (T.cells target.now)) result }
     ensures waits { OnOk result (puller.new
         ≡ waiting (length (sent_by (T.layout target.now) (T.cells target.now))) 0
         puller.old.limit) }

@@ -9,9 +9,10 @@ Grows None (Some new) added = ⊥
 Grows (Some old) None added = ⊤
 Grows (Some old) (Some new) added = new ≡ old ++ added
 
--- a call of a dial: an address is passed over, as it isn't due; or it was reached by a stream, or can't be reached; or
--- a stream was handed back
+-- a call of a dial: it was asked about an address, which is due, or is passed over as it isn't; or it reached one by a
+-- stream, or can't reach it; or a stream was handed back
 pub data DialCall : Type 0 where
+  due : (address : List ℕ) → DialCall
   passed_over : (address : List ℕ) → DialCall
   reached : (address : List ℕ) → Stream → DialCall
   unreached : (address : List ℕ) → DialCall

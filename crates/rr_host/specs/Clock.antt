@@ -20,10 +20,12 @@ abbrev pub first_moments : List ℤ → ℕ → List ℤ
 first_moments moments zero = []
 first_moments moments (suc count) = first_moments moments count ++ moment_at moments count ∷ []
 
--- a clock over memory: the moments that it has, and how many times it was asked, up to the greatest number of 64 bits
+-- a clock over memory: the moments that it has, and how many times it was asked and renewed, each up to the greatest
+-- number of 64 bits
 pub record MomentsState : Type 0 where
   pub moments : List ℤ
   pub asked : ℕ
+  pub renewals : ℕ
 
 -- what such a clock gave, as long as the times it was asked are counted
 abbrev pub given_by : MomentsState → Option (List ℤ)

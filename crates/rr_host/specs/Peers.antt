@@ -4,7 +4,7 @@ use Rattle.std.specs.Cmp.Lexicographic.{pointwise}
 use Rattle.rr_host.specs.declared.peers.Entry.{Entry}
 use Rattle.rr_host.specs.declared.peers.Entry.TheVariants as entry
 use Rattle.rr_host.specs.declared.peers.PreparedPeer.{PreparedPeer}
-use Rattle.rr_host.specs.Calls.{DialCall, handed_back, reached, unreached}
+use Rattle.rr_host.specs.Calls.{DialCall, due, handed_back, reached, unreached}
 use Rattle.rr_host.specs.Log.{HasNoted, Log}
 use Rattle.rr_host.specs.Streams.{new_stream, stream_of}
 
@@ -36,13 +36,16 @@ abbrev pub call_by : List ℕ → Option (List ℕ) → DialCall
 call_by address None = unreached address
 call_by address (Some bytes) = reached address (new_stream bytes)
 
+abbrev pub due_call : Peer → DialCall
+due_call peer = due peer.address
+
 abbrev pub call_to : Peer → DialCall
 call_to peer = call_by peer.address peer.sends
 
--- the call of a peer was noted; one to an address that no peer has can't be
-abbrev pub NotesCall : Option Peer → Log DialCall → Log DialCall → Type 0
-NotesCall None old new = new.calls ≡ None
-NotesCall (Some peer) old new = HasNoted (call_to peer) old new
+-- a call about a peer was noted; one about an address that no peer has can't be
+abbrev pub NotesCall : (Peer → DialCall) → Option Peer → Log DialCall → Log DialCall → Type 0
+NotesCall call None old new = new.calls ≡ None
+NotesCall call (Some peer) old new = HasNoted (call peer) old new
 
 -- a call was noted, and the peers are as they were
 pub record NotesOnly (call : DialCall) (old new : DialState) : Type 0 where
@@ -51,6 +54,7 @@ pub record NotesOnly (call : DialCall) (old new : DialState) : Type 0 where
 
 -- a call that was noted
 abbrev pub noted_call : Entry → DialCall
+noted_call (entry.Due address) = due address.now
 noted_call (entry.Reached address bytes) = reached address.now (new_stream bytes.now)
 noted_call (entry.Unreached address) = unreached address.now
 noted_call (entry.HandedBack input output) = handed_back (stream_of (λ r. Some r.now) (λ w. Some w.items) input output)

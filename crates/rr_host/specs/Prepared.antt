@@ -4,7 +4,7 @@ use Rattle.rr_host.specs.declared.prepared.Entry.{Entry}
 use Rattle.rr_host.specs.declared.prepared.Entry.TheVariants as entry
 use Rattle.rr_host.specs.Log.{HasNoted, Log}
 use Rattle.rr_host.specs.Streams.{new_stream, stream_of}
-use Rattle.rr_host.specs.Visits.{Call, Gave, Failed, Over, TookBack}
+use Rattle.rr_host.specs.Visits.{Call, Differs, Gave, Failed, Over, TookBack}
 
 -- connections that are prepared: the bytes that each brings, or none for one that fails; which comes next; and the
 -- calls
@@ -13,12 +13,12 @@ pub record PreparedState : Type 0 where
   pub place : ℕ
   pub log : Log Call
 
--- before the first call: there is room for those of each connection and one more
+-- before the first call: there is room for three of each connection and one more
 abbrev pub at_start : List (Option (List ℕ)) → PreparedState
 at_start inputs = record {
   inputs = inputs;
   place = 0;
-  log = record { calls = Some []; room = min (length inputs * 2 + 1) (2 ^ 64 - 1) };
+  log = record { calls = Some []; room = min (length inputs * 3 + 1) (2 ^ 64 - 1) };
 }
 
 -- the call that gives the connection at a place
@@ -45,4 +45,5 @@ abbrev pub noted_call : Entry → Call
 noted_call (entry.Gave input) = Gave (new_stream input.now)
 noted_call entry.Failed = Failed
 noted_call entry.Over = Over
+noted_call entry.Differs = Differs
 noted_call (entry.TookBack input output) = TookBack (stream_of (λ r. Some r.now) (λ w. Some w.items) input output)

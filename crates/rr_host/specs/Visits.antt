@@ -5,11 +5,13 @@ use Rattle.rr_host.specs.declared.visits.Visit.{Visit}
 use Rattle.rr_host.specs.declared.visits.Visit.TheVariants as visit
 use Rattle.rr_host.specs.Streams.{Stream, stream_of}
 
--- A call: a stream was given, or it failed, or none will come, or a stream was handed back
+-- A call: a stream was given, or it failed, or none will come; it was told that the peer of the stream has another
+-- schema; or a stream was handed back
 pub data Call : Type 0 where
   Gave : Stream → Call
   Failed : Call
   Over : Call
+  Differs : Call
   TookBack : Stream → Call
 
 -- the call that answered so

@@ -7,22 +7,28 @@ use std::marker::Model;
 
 /// Whoever says what time it is.
 ///
-/// It is seen as the list of the moments that it gave, where that is known.
+/// It is seen as the list of the moments that it gave, where that is known, and as the number of
+/// its renewals.
 pub trait Clock {
-    ghost use Rattle.std.specs.Prelude.{ℤ, List, [], ◌∷◌, Option};
+    ghost use Rattle.std.specs.Prelude.{ℕ, ℤ, List, [], ◌∷◌, Option};
     ghost use Rattle.rr_host.specs.Clock.{HasGiven};
+    ghost use Rattle.rr_io.specs.Counted.{one_more};
 
     ghost given: { Self → Option (List ℤ) };
 
+    ghost renewals: { Self → ℕ };
+
     /// The moment, in nanoseconds since the Unix epoch.
     fn now(&mut self) -> i64
-        ensures { HasGiven (given self.old) (given self.new) (result ∷ []) };
+        ensures given { HasGiven (given self.old) (given self.new) (result ∷ []) }
+        ensures renewals { renewals self.new ≡ renewals self.old };
 
     /// What is asked for from here on comes later than what was asked for before. Between two of
     /// these calls a clock may give one moment each time, so that one that is dear to read is read
-    /// once.
+    /// once. The number of renewals stops at the greatest one of 64 bits.
     fn renew(&mut self)
-        ensures { given self.new ≡ given self.old };
+        ensures given { given self.new ≡ given self.old }
+        ensures renewals { renewals self.new ≡ one_more (renewals self.old) };
 }
 
 /// A clock over memory: it gives its moments in turn, and then the last one again and again. With
@@ -32,6 +38,8 @@ pub struct Moments {
     moments: Vec<i64>,
     /// How many times it was asked. The number stops at its greatest value.
     asked: usize,
+    /// How many times it was renewed. The number stops at its greatest value.
+    renewals: u64,
 }
 
 impl Model for Moments {
@@ -39,15 +47,23 @@ impl Model for Moments {
 
     ghost Value = { MomentsState };
 
-    ghost view = { λ c. record { moments = c.moments.items; asked = c.asked } };
+    ghost view = { λ c. record {
+      moments = c.moments.items;
+      asked = c.asked;
+      renewals = c.renewals;
+    } };
 }
 
 impl Moments {
     /// A clock that gives these moments.
     pub fn new(moments: Vec<i64>) -> Moments
-        ensures { result ≡ record { moments = moments.items; asked = 0 } }
+        ensures { result ≡ record { moments = moments.items; asked = 0; renewals = 0 } }
     {
-        Moments { moments, asked: 0 }
+        Moments {
+            moments,
+            asked: 0,
+            renewals: 0,
+        }
     }
 
     /// The next moment.
@@ -65,12 +81,16 @@ impl Moments {
 impl Clock for Moments {
     ghost use Rattle.std.specs.Prelude.{[], ◌∷◌};
     ghost use Rattle.rr_host.specs.Clock.{HasGiven, given_by};
+    ghost use Rattle.rr_io.specs.Counted.{one_more};
 
     ghost given = { given_by };
+
+    ghost renewals = { λ c. c.renewals };
 
     fn now(&mut self) -> i64
         ensures given { HasGiven (given_by self.old) (given_by self.new) (result ∷ []) }
         ensures moment { result ≡ moment_at self.old.moments self.old.asked }
+        ensures renewals { self.new.renewals ≡ self.old.renewals }
     {
         let moment = self.moment();
         self.asked = self.asked.saturating_add(1);
@@ -78,7 +98,9 @@ impl Clock for Moments {
     }
 
     fn renew(&mut self)
-        ensures unasked { given_by self.new ≡ given_by self.old }
-        ensures unchanged { self.new ≡ self.old }
-    {}
+        ensures given { given_by self.new ≡ given_by self.old }
+        ensures renewed { self.new ≡ record self.old { renewals = one_more self.old.renewals } }
+    {
+        self.renewals = self.renewals.saturating_add(1);
+    }
 }

@@ -10,7 +10,7 @@ use std::io::{Read, Write};
 /// It is seen as the list of its calls, where that is known.
 pub trait Dial {
     ghost use Rattle.std.specs.Prelude.{List, [], ◌∷◌, Option};
-    ghost use Rattle.rr_host.specs.Calls.{DialCall, Grows, handed_back, passed_over, reached, unreached};
+    ghost use Rattle.rr_host.specs.Calls.{DialCall, Grows, due, handed_back, passed_over, reached, unreached};
     ghost use Rattle.rr_host.specs.Streams.{stream_of};
 
     /// What peers send.
@@ -23,12 +23,10 @@ pub trait Dial {
 
     /// Whether the peer at an address is to be called now; it is passed over if not.
     fn is_due(&mut self, address: &str) -> bool
-        ensures due { result ≡ true → calls self.new ≡ calls self.old }
+        ensures due { result ≡ true → Grows (calls self.old) (calls self.new)
+            (due address.now ∷ []) }
         ensures passed { result ≡ false → Grows (calls self.old) (calls self.new)
-            (passed_over address.now ∷ []) }
-    {
-        true
-    }
+            (passed_over address.now ∷ []) };
 
     /// A stream to the peer at an address; none where it can't be reached.
     fn open(&mut self, address: &str) -> Option<(Counted<Self::Input>, Counted<Self::Output>)>

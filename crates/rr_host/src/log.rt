@@ -68,8 +68,9 @@ impl<C: Drop> CallLog<C> {
 
     /// The last call, if all are known.
     pub fn into_last(self) -> Option<C>
-        ensures { IfSome self.calls (λ calls. (before : List C)
+        ensures last { IfSome self.calls (λ calls. (before : List C)
             × (calls ≡ before ++ option_to_list result)) }
+        ensures none { result ≡ None → IfSome self.calls (λ calls. calls ≡ []) }
     {
         let mut calls = self.calls;
         if self.is_full {

@@ -1,22 +1,22 @@
 //! How often something is done.
 
-ghost use Rattle.std.specs.Prelude.{◌≡◌, None, true};
-ghost use Rattle.rr_host.specs.Pace.{passed_next};
+ghost use Rattle.std.specs.Prelude.{◌≡◌, None};
+ghost use Rattle.rr_host.specs.Pace.{is_due, is_past, passed_next};
 
 use std::marker::Model;
-use std::time::{Clock, Instant};
+use std::time::Instant;
 
 /// For how many turns something that failed is passed over at most.
 const MOST_PASSED: u64 = 64;
 
 const _: () = prove!(MOST_PASSED == 64);
 
-/// The pace of something that is done at most once in a turn of so many seconds, by the clock of
-/// the host that never goes back. Nothing is known of that clock; if it can't be read, the thing is
-/// due.
+/// The pace of something that is done at most once in a turn of so many seconds, by a clock that
+/// never goes back.
 ///
 /// Where it failed it is passed over for one turn, and then, as long as it fails again, for 2, 4
-/// and so on, at most 64.
+/// and so on, at most 64. Each call takes a reading of the clock; where that is missing, as the
+/// clock can't be read, the thing is due, and so it is after a time of which it is missing.
 #[derive(Drop)]
 pub struct Pace {
     /// The seconds of a turn; where this is missing, the thing is due at any time.
@@ -32,14 +32,21 @@ impl Model for Pace {
 
     ghost Value = { PaceState };
 
-    ghost view = { λ p. record { every = p.every; passed = p.passed } };
+    ghost view = { λ p. record { every = p.every; last = p.last; passed = p.passed } };
+}
+
+/// Whether a turn of `every` seconds is past, and the turns that are passed over.
+fn is_past(elapsed: u64, every: u64, passed: u64) -> bool
+    ensures { result ≡ is_past elapsed every passed }
+{
+    elapsed >= every.saturating_mul(passed.saturating_add(1))
 }
 
 impl Pace {
     /// The pace of what is due once in so many seconds, or at any time if that is missing. It has
     /// not been done yet.
     pub fn new(every: Option<u64>) -> Pace
-        ensures { result ≡ record { every = every; passed = 0 } }
+        ensures { result ≡ record { every = every; last = None; passed = 0 } }
     {
         Pace {
             every,
@@ -49,35 +56,33 @@ impl Pace {
     }
 
     /// Whether it is due.
-    pub fn is_due(&self, clock: &impl Clock) -> bool
-        ensures { self.now.every ≡ None → result ≡ true }
+    pub fn is_due(&self, now: Option<Instant>) -> bool
+        ensures { result ≡ is_due self.now now }
     {
-        let (Some(every), Some(last)) = (self.every, self.last) else {
+        let (Some(every), Some(last), Some(now)) = (self.every, self.last, now) else {
             return true;
         };
-        match last.elapsed(clock) {
-            Ok(elapsed) => elapsed.as_secs() >= every.saturating_mul(self.passed.saturating_add(1)),
-            Err(_) => true,
-        }
+        is_past(now.duration_since(last).as_secs(), every, self.passed)
     }
 
-    /// It was done just now.
-    pub fn done(&mut self, clock: &impl Clock)
-        ensures { self.new ≡ record { every = self.old.every; passed = 0 } }
+    /// It is done now.
+    pub fn done(&mut self, now: Option<Instant>)
+        ensures { self.new ≡ record { every = self.old.every; last = now; passed = 0 } }
     {
-        self.last = Instant::now(clock).ok();
+        self.last = now;
         self.passed = 0;
     }
 
-    /// It failed just now.
-    pub fn failed(&mut self, clock: &impl Clock)
+    /// It fails now.
+    pub fn failed(&mut self, now: Option<Instant>)
         ensures { self.new ≡ record {
           every = self.old.every;
+          last = now;
           passed =
               passed_next self.old.passed;
         } }
     {
-        self.last = Instant::now(clock).ok();
+        self.last = now;
         self.passed = if self.passed == 0 {
             1
         } else {

@@ -12,6 +12,8 @@ use std::marker::Model;
 /// What a call of a prepared dial was.
 #[derive(Drop)]
 pub(crate) enum Entry<'a> {
+    /// The peer of this address is due.
+    Due(&'a str),
     /// The peer of this address was reached, which sends these bytes.
     Reached(&'a str, &'a [u8]),
     /// The peer of this address can't be reached.
@@ -29,7 +31,8 @@ pub struct PreparedPeer<'a> {
     pub sends: Option<&'a [u8]>,
 }
 
-/// Reaches peers that are prepared, and no other. What was sent to each is kept.
+/// Reaches peers that are prepared, and no other; each is due whenever it is asked. What was sent to
+/// each is kept.
 ///
 /// Its calls are known as long as there is memory to note them; [`PreparedDial::new`] makes room
 /// for some. They aren't known after a call to an address that no peer has.
@@ -99,9 +102,9 @@ fn peer_of<'a>(peers: &'a [PreparedPeer<'a>], address: &str) -> Option<PreparedP
 }
 
 impl<'a> Dial for PreparedDial<'a> {
-    ghost use Rattle.std.specs.Prelude.{◌≡◌, [], ◌∷◌, None, Some, IfSome, option_map};
-    ghost use Rattle.rr_host.specs.Calls.{Grows, handed_back, reached, unreached};
-    ghost use Rattle.rr_host.specs.Peers.{NotesCall, NotesOnly, peer_of, sent_by};
+    ghost use Rattle.std.specs.Prelude.{◌≡◌, [], ◌∷◌, None, Some, IfSome, option_map, true, false};
+    ghost use Rattle.rr_host.specs.Calls.{Grows, due, handed_back, passed_over, reached, unreached};
+    ghost use Rattle.rr_host.specs.Peers.{NotesCall, NotesOnly, call_to, due_call, peer_of, sent_by};
     ghost use Rattle.rr_host.specs.Streams.{new_stream, stream_of};
 
     type Input = &'a [u8];
@@ -109,6 +112,23 @@ impl<'a> Dial for PreparedDial<'a> {
     type Output = Vec<u8>;
 
     ghost calls = { λ d. d.log.calls };
+
+    fn is_due(&mut self, address: &str) -> bool
+        ensures due { result ≡ true → Grows self.old.log.calls self.new.log.calls
+            (due address.now ∷ []) }
+        ensures passed { result ≡ false → Grows self.old.log.calls self.new.log.calls
+            (passed_over address.now ∷ []) }
+        ensures always { result ≡ true }
+        ensures noted { NotesCall due_call (peer_of self.old.peers address.now) self.old.log
+            self.new.log }
+        ensures peers { self.new.peers ≡ self.old.peers }
+    {
+        match peer_of(self.peers, address) {
+            Some(peer) => self.note(Entry::Due(peer.address)),
+            None => self.log.forget(),
+        }
+        true
+    }
 
     fn open(&mut self, address: &str) -> Option<(Counted<&'a [u8]>, Counted<Vec<u8>>)>
         ensures reached { IfSome result (λ s. Grows self.old.log.calls self.new.log.calls
@@ -118,7 +138,8 @@ impl<'a> Dial for PreparedDial<'a> {
         ensures stream { option_map (λ s. stream_of (λ r. Some r.now) (λ w. Some w.items) s.0 s.1)
             result
             ≡ option_map new_stream (sent_by (peer_of self.old.peers address.now)) }
-        ensures noted { NotesCall (peer_of self.old.peers address.now) self.old.log self.new.log }
+        ensures noted { NotesCall call_to (peer_of self.old.peers address.now) self.old.log
+            self.new.log }
         ensures peers { self.new.peers ≡ self.old.peers }
     {
         let Some(peer) = peer_of(self.peers, address) else {

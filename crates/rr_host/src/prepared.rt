@@ -18,6 +18,8 @@ pub(crate) enum Entry<'a> {
     Failed,
     /// None was left.
     Over,
+    /// It was told that the peer of a connection has another schema.
+    Differs,
     /// A connection was handed back.
     TookBack(Counted<&'a [u8]>, Counted<Vec<u8>>),
 }
@@ -26,7 +28,7 @@ pub(crate) enum Entry<'a> {
 /// was answered is kept.
 ///
 /// Its calls are known as long as there is memory to note them; [`Prepared::new`] makes room for
-/// those of each connection and one more.
+/// three of each connection and one more.
 #[derive(Drop)]
 pub struct Prepared<'a> {
     alloc: Global,
@@ -56,7 +58,7 @@ impl<'a> Prepared<'a> {
         ensures { IfOk result (λ p. p ≡ at_start
             (map (option_map (λ bytes. bytes.now)) inputs.now)) }
     {
-        let room = inputs.len().saturating_mul(2).saturating_add(1);
+        let room = inputs.len().saturating_mul(3).saturating_add(1);
         Ok(Prepared {
             alloc,
             inputs,
@@ -85,7 +87,7 @@ impl<'a> Visits for Prepared<'a> {
     ghost use Rattle.std.specs.Prelude.{◌≡◌, [], ◌∷◌, Some};
     ghost use Rattle.rr_host.specs.Prepared.{Notes, next_call, next_place};
     ghost use Rattle.rr_host.specs.Streams.{stream_of};
-    ghost use Rattle.rr_host.specs.Visits.{HasCalled, TookBack, call_of};
+    ghost use Rattle.rr_host.specs.Visits.{Differs, HasCalled, TookBack, call_of};
 
     type Input = &'a [u8];
 
@@ -110,6 +112,13 @@ impl<'a> Visits for Prepared<'a> {
         };
         self.note(Entry::Gave(bytes));
         Visit::Stream(Counted::new(bytes), Counted::new(Vec::new(self.alloc)))
+    }
+
+    fn schema_differs(&mut self)
+        ensures called { HasCalled self.old.log.calls self.new.log.calls (Differs ∷ []) }
+        ensures noted { Notes Differs self.old.place self.old self.new }
+    {
+        self.note(Entry::Differs);
     }
 
     fn take_back(&mut self, input: Counted<&'a [u8]>, output: Counted<Vec<u8>>)

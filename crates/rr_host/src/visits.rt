@@ -19,7 +19,7 @@ pub enum Visit<R, W> {
 pub trait Visits {
     ghost use Rattle.std.specs.Prelude.{◌≡◌, [], ◌∷◌, List, Option};
     ghost use Rattle.rr_host.specs.Streams.{stream_of};
-    ghost use Rattle.rr_host.specs.Visits.{Call, HasCalled, TookBack, call_of};
+    ghost use Rattle.rr_host.specs.Visits.{Call, Differs, HasCalled, TookBack, call_of};
 
     /// What a connection's bytes come from.
     type Input: Read;
@@ -37,8 +37,7 @@ pub trait Visits {
     /// Is told that the peer which pulls on the connection that was given last has another schema,
     /// before the connection is handed back.
     fn schema_differs(&mut self)
-        ensures { calls self.new ≡ calls self.old }
-    {}
+        ensures { HasCalled (calls self.old) (calls self.new) (Differs ∷ []) };
 
     /// Takes back a connection that was given.
     fn take_back(&mut self, input: Counted<Self::Input>, output: Counted<Self::Output>)

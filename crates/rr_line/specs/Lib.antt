@@ -5,6 +5,7 @@ pub mod Tag
 pub mod Value
 pub mod Integer
 pub mod Field
+pub mod Precision
 pub mod Time
 pub mod Key
 pub mod Grammar

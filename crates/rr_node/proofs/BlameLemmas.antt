@@ -14,6 +14,7 @@ use Rattle.rr_node.specs.Fault.{IsOfLines, IsToBlame, of_session_fault}
 pub record LinesTell {X : Type 0} (result : Result X NodeFault) (before after : Stream) : Type 0 where
   pub read : result ≡ Err node.ReadFailed → HasRisen before.input.failures after.input.failures
   pub many : result ≡ Err node.TooManyReads → HasRisenBy MAX_READS before.input.reads after.input.reads
+  pub no_end : result ≡ Err node.TooManyReads → after.input.ends ≡ before.input.ends
   pub write : result ≡ Err node.WriteFailed → HasRisen before.output.failures after.output.failures
 
 -- and of those of a session
@@ -27,7 +28,7 @@ pub blamed : {X : Type 0} (result : Result X NodeFault) (before after : Stream) 
 blamed (Ok x) before after lines given = tt
 blamed (Err node.ReadFailed) before after lines given = lines.read refl
 blamed (Err node.WriteFailed) before after lines given = lines.write refl
-blamed (Err node.TooManyReads) before after lines given = lines.many refl
+blamed (Err node.TooManyReads) before after lines given = (lines.many refl, lines.no_end refl)
 blamed (Err node.BadAddress) before after lines given = tt
 blamed (Err (node.Session session.ReadFailed)) before after lines given = given.read refl
 blamed (Err (node.Session session.Ended)) before after lines given = tt
@@ -53,7 +54,7 @@ pub lines_blamed : {X : Type 0} (result : Result X NodeFault) (before after : St
 lines_blamed (Ok x) before after lines faults = tt
 lines_blamed (Err node.ReadFailed) before after lines faults = lines.read refl
 lines_blamed (Err node.WriteFailed) before after lines faults = lines.write refl
-lines_blamed (Err node.TooManyReads) before after lines faults = lines.many refl
+lines_blamed (Err node.TooManyReads) before after lines faults = (lines.many refl, lines.no_end refl)
 lines_blamed (Err node.BadAddress) before after lines faults = tt
 lines_blamed (Err (node.Session why)) before after lines faults = absurd (no_session why faults)
 lines_blamed (Err node.Memory) before after lines faults = tt

@@ -371,13 +371,13 @@ answers_front c start k pushed text given later bytes has comes =
     (more.0, ap (λ (x : Served). x.answers) all ∙ more.1)
 
 -- once nothing is left, all of the stream is served
-pub served_all : (c : Connection) (start k : KeeperState) (pushed text : List ℕ) (given : List ℤ)
-    → items_left c.feed ≡ [] → c.feed.ended ≡ true → HasServed c start pushed given k text
-    → (length given ≡ count_by (asks_clock c.rules) (items true pushed))
-    × (after c.rules start given (items true pushed) ≡ served_so_far c k text [])
-served_all c start k pushed text given nothing ended has =
-    let all : has.handed ≡ items true pushed = IsFed-all pushed has.handed c.feed nothing has.fed
-    ∙ ap (λ (b : Bool). items b pushed) ended in (
+pub served_all : (c : Connection) (start k : KeeperState) (pushed text : List ℕ) (given : List ℤ) (ended : Bool)
+    → items_left c.feed ≡ [] → c.feed.ended ≡ ended → HasServed c start pushed given k text
+    → (length given ≡ count_by (asks_clock c.rules) (items ended pushed))
+    × (after c.rules start given (items ended pushed) ≡ served_so_far c k text [])
+served_all c start k pushed text given ended nothing is has =
+    let all : has.handed ≡ items ended pushed = IsFed-all pushed has.handed c.feed nothing has.fed
+    ∙ ap (λ (b : Bool). items b pushed) is in (
       has.asked ∙ ap (count_by (asks_clock c.rules)) all,
       ap (after c.rules start given) (sym all) ∙ subst
           (λ (m : List ℤ). after c.rules start m has.handed ≡ served_so_far c k text []) (append-nil given)

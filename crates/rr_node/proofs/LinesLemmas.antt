@@ -2,9 +2,10 @@
 use Rattle.std.proofs.Common.{◌≡◌, ℕ, ◌+◌, ◌%◌, ◌==◌, Bool, take, ℤ, true, false, List, [], ◌∷◌, ◌++◌, Option, Some, None, refl, sym, ap, subst, inl, inr}
 use Rattle.std.proofs.lemmas.List.{append-nil}
 use Rattle.std.specs.Prelude.{IfSome, IfOk, OnErr, Result, Ok, Err, fold, if◌then◌else◌}
-use Rattle.std.specs.Io.KnownBytes.{Appends, Consumes, IsAtEnd}
+use Rattle.std.specs.Io.KnownBytes.{Appends, Consumes, IsAtEnd, Keeps}
 use Rattle.std.proofs.KnownBytes.{Consumes-trans, Consumes-whole}
 use mathlib.Core.List.{IsPrefix}
+use Rattle.rr_feed.specs.Feed.{items_left}
 use Rattle.rr_feed.specs.Items.{Item, items}
 use Rattle.rr_point.specs.Point.{PointView}
 use Rattle.rr_desk.specs.Points.{with_puts, with_put}
@@ -19,9 +20,10 @@ use Rattle.rr_node.specs.declared.rules.Rules.{Rules}
 use Rattle.rr_node.specs.declared.rules.TheConstants.{LINES_TO_PUBLISH}
 use Rattle.rr_host.specs.Clock.{HasGiven}
 use Rattle.rr_node.specs.Connection.{ComesAfter, StoppedAtEnd, ServedAll, HasServed, IsWhole, Stops}
-use Rattle.rr_node.specs.Lines.{Run, Served, Verdict, skipped, put, refused, after, served_at_start, first_of, HasStopped, IsServed, keeper_with, keeper_with_some, keeper_within, published_after, verdict_of, with_item}
+use Rattle.rr_node.specs.Lines.{Run, Served, Verdict, skipped, put, refused, after, served_at_start, first_of, HasServedWhole, HasStopped, IsServed, keeper_with, keeper_with_some, keeper_within, published_after, verdict_of, with_item}
 use Rattle.rr_host.proofs.ClockLemmas.{HasGiven-trans}
-use Rattle.rr_node.proofs.ConnectionLemmas.{ends_here}
+use Rattle.rr_node.proofs.ConnectionLemmas.{ends_here, served_all}
+use Rattle.rr_node.proofs.ServingLemmas.{consumed_same}
 use Rattle.rr_node.proofs.StreamLemmas.{answered_in_part, answers_in_part}
 
 -- ---- what readers may see
@@ -80,11 +82,11 @@ published_part rules old new moments lines last count is =
 -- ---- the whole connection
 
 -- what was taken of a reader's bytes is served
-pub record IsServing (c : Connection) (run : Run) (left : Option (List ℕ)) : Type 0 where
+pub record IsServing (c : Connection) (run : Run) : Type 0 where
   pub taken : List ℕ
   pub moments : List ℤ
   pub text : List ℕ
-  pub consumed : Consumes run.input left taken
+  pub consumed : Consumes run.input run.left taken
   pub gave : HasGiven run.given run.given_since moments
   pub served : HasServed c run.old taken moments run.new text
   pub appended : Appends run.written run.written_since text
@@ -173,10 +175,9 @@ served_at_end rules run mid left taken buffer given moments counted first second
 }
 
 -- where a stream fails between two pieces
-pub stopped_between : (c : Connection) (run : Run) (left : Option (List ℕ)) → c.feed.ended ≡ false
-    → IsServing c run left → HasStopped c.rules run
-stopped_between c run left going so_far =
-    stopped_before c c.rules run so_far.taken left so_far.moments going so_far.consumed so_far.gave (record {
+pub stopped_between : (c : Connection) (run : Run) → c.feed.ended ≡ false → IsServing c run → HasStopped c.rules run
+stopped_between c run going so_far =
+    stopped_before c c.rules run so_far.taken run.left so_far.moments going so_far.consumed so_far.gave (record {
       ends = ends_here c run.old run.new so_far.taken so_far.text so_far.moments so_far.served;
       answered = λ bytes comes later. answered_in_part c run.old run.new so_far.taken so_far.text so_far.moments later
           bytes run.written run.written_since so_far.served comes
@@ -185,6 +186,52 @@ stopped_between c run left going so_far =
           later bytes run.written run.written_since so_far.served comes
           (so_far.text, [], sym (append-nil so_far.text), so_far.appended));
     })
+
+-- whatever is left of the input
+pub stopped_left : (rules : Rules) (run : Run) (left : Option (List ℕ)) → HasStopped rules run
+    → HasStopped rules (record run { left = left })
+stopped_left rules run left stopped = record {
+  lines = stopped.lines;
+  last = stopped.last;
+  count = stopped.count;
+  moments = stopped.moments;
+  input = stopped.input;
+  given = stopped.given;
+  asked = stopped.asked;
+  keeper = stopped.keeper;
+  published = stopped.published;
+  answered = stopped.answered;
+  reported = stopped.reported;
+}
+
+-- a read that took nothing
+pub serving_still : (c : Connection) (run : Run) (left : Option (List ℕ)) → IsServing c run → Keeps run.left left
+    → IsServing c (record run { left = left })
+serving_still c run left so_far keeps = record {
+  taken = so_far.taken;
+  moments = so_far.moments;
+  text = so_far.text;
+  consumed = consumed_same run.input run.left left so_far.taken so_far.consumed keeps;
+  gave = so_far.gave;
+  served = so_far.served;
+  appended = so_far.appended;
+}
+
+-- there all lines that came whole are served
+pub served_whole : (c : Connection) (run : Run) → c.feed.ended ≡ false → items_left c.feed ≡ [] → IsServing c run
+    → HasServedWhole c.rules run
+served_whole c run going nothing so_far =
+    let all = served_all c run.old run.new so_far.taken so_far.text so_far.moments false nothing going so_far.served in
+    record {
+      came = so_far.taken;
+      moments = so_far.moments;
+      taken = so_far.consumed;
+      given = so_far.gave;
+      asked = all.0;
+      keeper = ap (λ (s : Served). s.keeper) (sym all.1);
+      answered = subst (Appends run.written run.written_since) (ap (λ (s : Served). s.answers) (sym all.1))
+          so_far.appended;
+    }
 
 -- how a connection stands when the read comes that tells the end, and what it then has
 pub record IsLast (c : Connection) (run : Run) (now : KeeperState) (since : Option (List ℤ)) (written : Option (List ℕ))

@@ -6,22 +6,23 @@ use Rattle.rr_node.specs.declared.fault.NodeFault.{NodeFault}
 use Rattle.rr_node.specs.declared.fault.NodeFault.TheVariants.{Memory, Session}
 use Rattle.rr_node.specs.Fault.{IsOfReader}
 use Rattle.rr_node.specs.Fetches.{ReaderAndGate, IsServed}
-use Rattle.rr_node.specs.Seats.{AreVisits, HasServedSeat, HasVisited, IsStreamServed, IsVisit}
+use Rattle.rr_node.specs.Seats.{AreVisits, HasServedSeat, HasVisited, IsStreamServed, IsVisit, told_of_schema}
 use Rattle.rr_node.proofs.BlameLemmas.{LinesTell, SessionTells, blamed}
 use Rattle.rr_host.proofs.VisitsLemmas.{called_more}
 use Rattle.rr_host.specs.Streams.{Stream}
 use Rattle.rr_host.specs.Visits.{Call, Gave, HasCalled, TookBack}
 
 -- a connection that was given and handed back
-pub stream_served : (result : Result (Unit {0}) NodeFault) (a b c : Option (List Call)) (before after : Stream)
+pub stream_served : (result : Result (Unit {0}) NodeFault) (a b c d : Option (List Call)) (before after : Stream)
     (old new : ReaderAndGate)
-    → HasCalled a b (Gave before ∷ []) → HasCalled b c (TookBack after ∷ [])
+    → HasCalled a b (Gave before ∷ []) → HasCalled b c (told_of_schema result) → HasCalled c d (TookBack after ∷ [])
     → IsServed result before.input.left after.input.left before.output.written after.output.written old new
     → IfErr result IsOfReader → LinesTell result before after → SessionTells result Session before after
-    → (calls : List Call) × HasCalled a c calls × IsStreamServed result calls old new
-stream_served result a b c before after old new gave took served faults lines given = (
-  Gave before ∷ TookBack after ∷ [],
-  called_more a b c (Gave before ∷ []) (TookBack after ∷ []) gave took,
+    → (calls : List Call) × HasCalled a d calls × IsStreamServed result calls old new
+stream_served result a b c d before after old new gave told took served faults lines given = (
+  Gave before ∷ (told_of_schema result ++ TookBack after ∷ []),
+  called_more a b d (Gave before ∷ []) (told_of_schema result ++ TookBack after ∷ []) gave
+      (called_more b c d (told_of_schema result) (TookBack after ∷ []) told took),
   record {
     before = before;
     after = after;

@@ -2,13 +2,14 @@
 use Rattle.std.proofs.Common.{◌≡◌, ◌⊎◌, ℕ, true, false, List, [], ◌∷◌, Option, Some, None, Result, Ok, Err, refl, subst, inl, inr}
 use Rattle.std.specs.Prelude.{IfErr, IfSome, OnErr, OnOk}
 use Rattle.std.specs.Io.KnownBytes.{Consumes}
+use Rattle.std.proofs.KnownBytes.{Appends-nil, Consumes-trans}
 use Rattle.rr_desk.specs.ReaderState.{cells_seen}
 use Rattle.rr_node.specs.declared.fault.NodeFault.{NodeFault}
 use Rattle.rr_node.specs.declared.fault.NodeFault.TheVariants.{ReadFailed, TooManyReads}
-use Rattle.rr_node.specs.Fault.{IsOfLines}
-use Rattle.rr_node.specs.Fetches.{ReaderAndGate, HasAnsweredSome, HasNotGiven, IsServed, is_pull}
+use Rattle.rr_node.specs.Fault.{IsOfLines, IsOfReading}
+use Rattle.rr_node.specs.Fetches.{ReaderAndGate, HasAnsweredSome, HasAnsweredTaken, HasNotGiven, IsServed, is_pull}
 use Rattle.rr_node.proofs.FetchesLemmas.{seen_same}
-use Rattle.rr_node.proofs.ServingLemmas.{none_answered}
+use Rattle.rr_node.proofs.ServingLemmas.{none_answered, of_each}
 
 -- ---- by the result and what is known of the input
 
@@ -44,12 +45,14 @@ of_first fault (inr e) = inr (inr (inl e))
 
 -- the first byte was not read
 pub served_unread : {X : Type 0} (fault : NodeFault) (had left out : Option (List ℕ)) (at : ReaderAndGate)
-    → (fault ≡ ReadFailed) ⊎ (fault ≡ TooManyReads) → IsServed {X = X} (Err fault) had left out out at at
-served_unread {X} fault had left out at why = record {
+    → Consumes had left [] → (fault ≡ ReadFailed) ⊎ (fault ≡ TooManyReads) → IsServed {X = X} (Err fault) had left out out at at
+served_unread {X} fault had left out at unread why = record {
   seen = seen_same at.reader;
   answered = tt;
   front = err_known {X = X} (Err fault) had (λ bytes. is_pull bytes ≡ false
       → HasAnsweredSome bytes at at.reader out out) (λ f bytes e is pull. none_answered bytes at out);
+  at_once = λ reading. of_each had (λ bytes. is_pull bytes ≡ false → HasAnsweredTaken [] had left at at out out)
+      (λ bytes pull. ([], unread, record { text = []; answered = (refl, refl); written = Appends-nil out }));
   faults = fault_known {X = X} (Err fault) had (λ f bytes. is_pull bytes ≡ false → IsOfLines f)
       (λ f bytes e is pull. let same : fault ≡ f = cc in subst IsOfLines same (of_first fault why));
   given = tt;
@@ -58,3 +61,15 @@ served_unread {X} fault had left out at why = record {
       (λ f bytes e is pull. let same : fault ≡ f = cc in
       inl (subst (λ (n : NodeFault). (n ≡ ReadFailed) ⊎ (n ≡ TooManyReads)) same why, refl));
 }
+
+-- the lines after the first byte that came whole are answered
+pub taken_after : {X : Type 0} (result : Result X NodeFault) (had mid left before after : Option (List ℕ)) (first : ℕ)
+    (old new : ReaderAndGate) → Consumes had mid (first ∷ [])
+    → IfErr result (λ fault. IsOfReading fault → HasAnsweredTaken (first ∷ []) mid left old new before after)
+    → IfErr result (λ fault. IsOfReading fault → IfSome had (λ bytes. is_pull bytes ≡ false
+    → HasAnsweredTaken [] had left old new before after))
+taken_after (Ok x) had mid left before after first old new consumed answered = tt
+taken_after (Err fault) had mid left before after first old new consumed answered = λ reading.
+    let taken = answered reading in
+    of_each had (λ bytes. is_pull bytes ≡ false → HasAnsweredTaken [] had left old new before after)
+    (λ bytes pull. (first ∷ taken.0, Consumes-trans had mid left (first ∷ []) taken.0 consumed taken.1, taken.2))

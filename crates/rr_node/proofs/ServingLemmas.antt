@@ -11,7 +11,7 @@ use Rattle.rr_feed.specs.Laws.{IsFed}
 use Rattle.rr_feed.proofs.FedLemmas.{IsFed-all, IsFed-end, IsFed-new, IsFed-push}
 use Rattle.rr_desk.specs.ReaderState.{ReaderState, HasSeenMore}
 use Rattle.rr_node.specs.Answering.{HasWritten, HasWrittenSome}
-use Rattle.rr_node.specs.Fetches.{ReaderAndGate, AreAnswered, HasAnswered, HasAnsweredSome}
+use Rattle.rr_node.specs.Fetches.{ReaderAndGate, AreAnswered, HasAnswered, HasAnsweredSome, HasAnsweredTaken}
 use Rattle.rr_node.proofs.FetchesLemmas.{answers_append, seen_in_answers, seen_more, seen_same}
 
 -- what holds of all that a reader had, since it holds of what was taken whatever is left
@@ -193,6 +193,23 @@ front_of_some first f g had left before mid after old at reader so_far going som
       written = prefix_after before mid after so_far.text some.text so_far.written some.written;
     })
 
+-- all lines that came whole are answered
+pub whole_so_far : (first : ℕ) (feed : FeedState) (had left before after : Option (List ℕ)) (old new : ReaderAndGate)
+    → SoFar first feed had left before after old new → feed.ended ≡ false → items_left feed ≡ []
+    → HasAnsweredTaken (first ∷ []) had left old new before after
+whole_so_far first feed had left before after old new so_far going nothing =
+    let all : so_far.handed ≡ items false (first ∷ so_far.taken) =
+    IsFed-all (first ∷ so_far.taken) so_far.handed feed nothing so_far.fed
+    ∙ ap (λ b. items b (first ∷ so_far.taken)) going in (
+      so_far.taken,
+      so_far.consumed,
+      record {
+        text = so_far.text;
+        answered = subst (λ (items : List Item). AreAnswered items old new so_far.text) all so_far.answered;
+        written = so_far.written;
+      },
+    )
+
 -- all of a reader's bytes are taken, once it is at its end
 pub of_all_taken : (a b c : Option (List ℕ)) (taken buffer : List ℕ) (given : ℕ) (P : List ℕ → Type 0)
     → Consumes a b taken → Consumes b c (take given buffer) → given ≡ 0 → IsAtEnd c → P taken → IfSome a P
@@ -205,7 +222,7 @@ of_all_taken a b c taken buffer given P first second zero end holds =
 pub all_answered : (first : ℕ) (f e g : FeedState) (had left before mid after : Option (List ℕ))
     (old at new : ReaderAndGate) → (so_far : SoFar first f had left before mid old at)
     → e ≡ state f.left f.skipping true → HasWritten e g at new mid after → items_left g ≡ []
-    → HasAnswered (first ∷ so_far.taken) old new before after
+    → HasAnswered true (first ∷ so_far.taken) old new before after
 unfolding so_far_answered so_far_ended
 all_answered first f e g had left before mid after old at new so_far is more nothing =
     let last = so_far_answered first e g had left before mid after old at new

@@ -156,7 +156,7 @@ pub stops_reporting : (c : Connection) (start k now : KeeperState) (pushed text 
     → Appends first written text → AppendsPrefix written since (report_text c.report)
     → Stops c.rules start now (λ bytes. bytes ≡ pushed) given first since
 stops_reporting c start k now pushed text given first written since done published appends part =
-    let all = served_all c start k pushed text given done.nothing done.ended done.has in
+    let all = served_all c start k pushed text given true done.nothing done.ended done.has in
     record {
       ends = record {
         lines = items true pushed;
@@ -191,7 +191,7 @@ pub whole_of : (c : Connection) (start k now : KeeperState) (pushed text : List 
     → counted ≡ c.report → Appends first written text → Appends written since (report_text c.report)
     → IsWhole c.rules start now counted pushed given first since
 whole_of c start k now pushed text given counted first written since done published same appends reported =
-    let all = served_all c start k pushed text given done.nothing done.ended done.has in
+    let all = served_all c start k pushed text given true done.nothing done.ended done.has in
     record {
       asked = all.0;
       keeper = published ∙ ap (λ (s : Served). with_all_published s.keeper) (sym all.1);

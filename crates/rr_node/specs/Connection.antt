@@ -8,7 +8,7 @@ use Rattle.rr_feed.specs.Feed.{FeedState, empty_feed, items_left, state, MayCome
 use Rattle.rr_feed.specs.Items.{Item, items}
 use Rattle.rr_feed.specs.Laws.{IsFed}
 use Rattle.rr_io.specs.declared.counted.Counted.{Counted}
-use Rattle.rr_io.specs.Counted.{inner_of}
+use Rattle.rr_io.specs.Counted.{inner_of, is_flushed, one_more}
 use Rattle.rr_io.specs.Stream.{AppendsPrefix, WritesWhole}
 use Rattle.rr_line.specs.declared.fault.LineFault.{LineFault}
 use Rattle.rr_line.specs.declared.fault.LineFault.TheVariants.{Memory}
@@ -25,7 +25,7 @@ use Rattle.rr_node.specs.declared.fault.NodeFault.{NodeFault}
 use Rattle.rr_node.specs.declared.report.Report.{Report}
 use Rattle.rr_node.specs.declared.rules.Rules.{Rules}
 use Rattle.rr_host.specs.Clock.{HasGiven}
-use Rattle.rr_node.specs.Blame.{WritesOut}
+use Rattle.rr_node.specs.Blame.{StaysFlushed, WritesOut}
 use Rattle.rr_node.specs.Lines.{Verdict, skipped, put, refused, Served, after, answer_of, asks_clock, first_of, keeper_with, keeper_with_some, keeper_within, verdict_of, verdict_of_point}
 
 -- the answer tells what came of a verdict
@@ -218,24 +218,28 @@ ServedAll old before now counted moments written since =
     → HasServed old start pushed given before text
     → Appends first written text → IsWhole old.rules start now counted pushed (given ++ moments) first since
 
--- all lines that came were served, and what is answered to them was written; or memory ran out or a write failed, and
--- the lines were served so far
-pub record AnswersLines {C W X : Type 0} (given : C → Option (List ℤ)) (contents : W → Option (List ℕ))
-    (old new : Connection) (before now : KeeperState) (clock clock_new : C) (output output_new : Counted W)
+-- the clock was renewed, all lines that came were served, and what is answered to them was written and passed on; or
+-- memory ran out or a write failed, and the lines were served so far
+pub record AnswersLines {C W X : Type 0} (given : C → Option (List ℤ)) (renewals : C → ℕ)
+    (contents : W → Option (List ℕ)) (old new : Connection) (before now : KeeperState) (clock clock_new : C) (output output_new : Counted W)
     (result : Result X NodeFault) : Type 0 where
   pub served : OnOk result ((moments : List ℤ) × (text : List ℕ) × HasGiven (given clock) (given clock_new) moments
       × WritesWhole contents output output_new text × ServedAllItems old new before now moments text)
   pub stopped : OnErr result ((moments : List ℤ) × HasGiven (given clock) (given clock_new) moments
       × StoppedWriting old before now moments (contents (inner_of output)) (contents (inner_of output_new)))
+  pub renewed : renewals clock_new ≡ one_more (renewals clock)
+  pub flushed : OnOk result (StaysFlushed output output_new)
   pub writes : WritesOut output output_new result
 
--- the lines of the whole input were served, all was published, and all answers and the report were written; or memory
--- ran out or a write failed, and the lines were served so far
-pub record Finishes {C W : Type 0} (given : C → Option (List ℤ)) (contents : W → Option (List ℕ)) (old : Connection)
-    (before now : KeeperState) (clock clock_new : C) (output output_new : Counted W) (result : Result Report NodeFault)
+-- the clock was renewed, the lines of the whole input were served, all was published, and all answers and the report were
+-- written and passed on; or memory ran out or a write failed, and the lines were served so far
+pub record Finishes {C W : Type 0} (given : C → Option (List ℤ)) (renewals : C → ℕ) (contents : W → Option (List ℕ))
+    (old : Connection) (before now : KeeperState) (clock clock_new : C) (output output_new : Counted W) (result : Result Report NodeFault)
     : Type 0 where
   pub served : IfOk result (λ counted. (moments : List ℤ) × HasGiven (given clock) (given clock_new) moments
       × ServedAll old before now counted moments (contents (inner_of output)) (contents (inner_of output_new)))
   pub stopped : OnErr result ((moments : List ℤ) × HasGiven (given clock) (given clock_new) moments
       × StoppedAtEnd old before now moments (contents (inner_of output)) (contents (inner_of output_new)))
+  pub renewed : renewals clock_new ≡ one_more (renewals clock)
+  pub flushed : OnOk result (is_flushed output_new ≡ true)
   pub writes : WritesOut output output_new result

@@ -53,6 +53,10 @@ abbrev pub IsOfLines : NodeFault → Type 0
 IsOfLines fault = (fault ≡ node.ReadFailed) ⊎ (fault ≡ node.WriteFailed) ⊎ (fault ≡ node.TooManyReads)
     ⊎ (fault ≡ node.Memory)
 
+-- those of an input that isn't read to its end
+abbrev pub IsOfReading : NodeFault → Type 0
+IsOfReading fault = (fault ≡ node.ReadFailed) ⊎ (fault ≡ node.TooManyReads)
+
 -- those of a session
 abbrev pub IsOfSession : NodeFault → Type 0
 IsOfSession fault = (why : GossipFault) × (fault ≡ of_session_fault why)
@@ -77,7 +81,8 @@ is_memory node.Memory = true
 abbrev pub IsToBlame : Stream → Stream → NodeFault → Type 0
 IsToBlame before after node.ReadFailed = HasRisen before.input.failures after.input.failures
 IsToBlame before after node.WriteFailed = HasRisen before.output.failures after.output.failures
-IsToBlame before after node.TooManyReads = HasRisenBy MAX_READS before.input.reads after.input.reads
+IsToBlame before after node.TooManyReads =
+    HasRisenBy MAX_READS before.input.reads after.input.reads × (after.input.ends ≡ before.input.ends)
 IsToBlame before after node.BadAddress = ⊤
 IsToBlame before after (node.Session session.ReadFailed) = HasRisen before.input.failures after.input.failures
 IsToBlame before after (node.Session session.WriteFailed) = HasRisen before.output.failures after.output.failures

@@ -1,12 +1,12 @@
 -- How the lines of a fetch connection are answered.
 use Rattle.std.specs.Prelude.{◌≡◌, ◌⊎◌, ℕ, ◌==◌, nat_eq, Bool, true, false, List, [], ◌∷◌, ◌++◌, codes, Option, None, Some, Result, Ok, Err, ok_or, drop, option_and_then, IfSome, IfOk, IfErr, OnOk, OnErr, if◌then◌else◌}
 use Rattle.std.specs.Cmp.Lexicographic.{pointwise}
-use Rattle.std.specs.Io.KnownBytes.{Appends}
+use Rattle.std.specs.Io.KnownBytes.{Appends, Consumes}
 use Rattle.rr_text.specs.declared.bytes.TheConstants.{LINE_FEED, SPACE}
 use Rattle.rr_text.specs.Results.{◌>>=◌}
 use Rattle.rr_schema.specs.Schema.{Layout}
 use Rattle.rr_io.specs.declared.counted.Counted.{Counted}
-use Rattle.rr_io.specs.Counted.{inner_of}
+use Rattle.rr_io.specs.Counted.{inner_of, is_flushed}
 use Rattle.rr_io.specs.Stream.{AppendsPrefix, HasFailed}
 use Rattle.rr_text.specs.Text.{cut_at}
 use Rattle.rr_feed.specs.Items.{Item, Line, TooLong, items}
@@ -27,7 +27,7 @@ use Rattle.rr_gossip.specs.declared.frame.TheConstants.{MAX_FRAMES}
 use Rattle.rr_gossip.specs.Session.{HasGiven, HasFailedToGive}
 use Rattle.rr_node.specs.declared.fault.NodeFault.{NodeFault}
 use Rattle.rr_node.specs.declared.fault.NodeFault.TheVariants.{ReadFailed, Session, TooManyReads}
-use Rattle.rr_node.specs.Fault.{IsOfLines, IsOfSession, of_session_fault}
+use Rattle.rr_node.specs.Fault.{IsOfLines, IsOfReading, IsOfSession, of_session_fault}
 
 -- ---- one line
 
@@ -116,11 +116,17 @@ abbrev pub is_pull : List ℕ → Bool
 is_pull [] = false
 is_pull (byte ∷ bytes) = byte == 0
 
--- the answers to all lines of these bytes were written
-pub record HasAnswered (bytes : List ℕ) (old new : ReaderAndGate) (before after : Option (List ℕ)) : Type 0 where
+-- the answers to all lines of these bytes were written; the last one may lack its line feed where they have ended
+pub record HasAnswered (ended : Bool) (bytes : List ℕ) (old new : ReaderAndGate) (before after : Option (List ℕ)) : Type 0 where
   pub text : List ℕ
-  pub answered : AreAnswered (items true bytes) old new text
+  pub answered : AreAnswered (items ended bytes) old new text
   pub written : Appends before after text
+
+-- those to all lines that came whole were, by these bytes and those that were taken of the input
+abbrev pub HasAnsweredTaken : List ℕ → Option (List ℕ) → Option (List ℕ) → ReaderAndGate → ReaderAndGate
+    → Option (List ℕ) → Option (List ℕ) → Type 0
+HasAnsweredTaken bytes had left old new before after =
+    (taken : List ℕ) × Consumes had left taken × HasAnswered false (bytes ++ taken) old new before after
 
 -- a front of the answers to the first lines of these bytes was written, after which the reader may have seen more
 pub record HasAnsweredSome (bytes : List ℕ) (old : ReaderAndGate) (new : ReaderState)
@@ -150,6 +156,7 @@ pub record GivesSession {R W X : Type 0} (remaining : R → Option (List ℕ)) (
   pub stopped : IfErr result (HasFailedSession old.schema (cells_seen new) (remaining (inner_of input))
       (remaining (inner_of input_new)) (contents (inner_of output)) (contents (inner_of output_new)))
   pub seen : HasSeenMore old new
+  pub flushed : OnOk result (is_flushed output_new ≡ true)
   pub faults : IfErr result IsOfSession
   pub read_failed : result ≡ Err (Session session.ReadFailed) → HasFailed input input_new
   pub write_failed : result ≡ Err (Session session.WriteFailed) → HasFailed output output_new
@@ -162,13 +169,16 @@ HasNotGiven fault s m bytes left before after =
     ⊎ HasFailedSession s m (Some (drop 1 bytes)) left before after fault
 
 -- What a call that serves a connection does, by what it answers. Of the input it was handed what it had, and what is
--- left; of the output what was written before and after.
+-- left; of the output what was written before and after. Each line is answered before the next read: so it was wherever
+-- a read fails, and where no more may be made.
 pub record IsServed {X : Type 0} (result : Result X NodeFault) (had left before after : Option (List ℕ))
     (old new : ReaderAndGate) : Type 0 where
   pub seen : HasSeenMore old.reader new.reader
-  pub answered : OnOk result (IfSome had (λ bytes. is_pull bytes ≡ false → HasAnswered bytes old new before after))
+  pub answered : OnOk result (IfSome had (λ bytes. is_pull bytes ≡ false → HasAnswered true bytes old new before after))
   pub front : OnErr result (IfSome had (λ bytes. is_pull bytes ≡ false
       → HasAnsweredSome bytes old new.reader before after))
+  pub at_once : IfErr result (λ fault. IsOfReading fault → IfSome had (λ bytes. is_pull bytes ≡ false
+      → HasAnsweredTaken [] had left old new before after))
   pub faults : IfErr result (λ fault. IfSome had (λ bytes. is_pull bytes ≡ false → IsOfLines fault))
   pub given : OnOk result (IfSome had (λ bytes. is_pull bytes ≡ true
       → HasGiven MAX_FRAMES old.reader.schema (cells_seen new.reader) (0 ∷ []) (Some (drop 1 bytes)) left before after))

@@ -1,8 +1,9 @@
 -- What a keeper makes of the lines of a connection: samples that it puts, answers to refused lines, and a report.
-use Rattle.std.specs.Prelude.{◌≡◌, ◌⊎◌, ℕ, ◌+◌, ◌%◌, ◌==◌, ℤ, pos, Bool, true, false, List, [], ◌∷◌, ◌++◌, length, take, fold, count_by, codes, decimal, Option, IfSome, Result, Ok, Err, IfOk, IfErr, OnErr, unwrap_or, if◌then◌else◌}
-use Rattle.std.specs.Io.KnownBytes.{Appends}
+use Rattle.std.specs.Prelude.{◌≡◌, ◌⊎◌, ℕ, ◌+◌, ◌%◌, ◌==◌, ℤ, pos, Bool, true, false, List, [], ◌∷◌, ◌++◌, length, take, fold, count_by, codes, decimal, Option, IfSome, Result, Ok, Err, IfOk, IfErr, OnErr, OnOk, unwrap_or, if◌then◌else◌}
+use Rattle.std.specs.Io.KnownBytes.{Appends, Consumes}
 use mathlib.Core.List.{IsPrefix}
 use Rattle.rr_io.specs.declared.counted.Counted.{Counted}
+use Rattle.rr_io.specs.Counted.{is_flushed}
 use Rattle.rr_io.specs.Stream.{AppendsPrefix, HasFailed}
 use Rattle.rr_feed.specs.Items.{Item, Line, TooLong, items}
 use Rattle.rr_line.specs.declared.fault.LineFault.{LineFault}
@@ -22,8 +23,8 @@ use Rattle.rr_node.specs.declared.report.Report.{Report}
 use Rattle.rr_node.specs.declared.rules.Rules.{Rules}
 use Rattle.rr_node.specs.declared.rules.TheConstants.{LINES_TO_PUBLISH}
 use Rattle.rr_host.specs.Clock.{HasGiven}
-use Rattle.rr_node.specs.Blame.{ReadsWithin}
-use Rattle.rr_node.specs.Fault.{IsOfLines}
+use Rattle.rr_node.specs.Blame.{ReadsWithin, StaysFlushed}
+use Rattle.rr_node.specs.Fault.{IsOfLines, IsOfReading}
 
 -- lines whose times have this precision, and that may be this much ahead of the clock
 abbrev pub rules_of : Precision → Option ℕ → Rules
@@ -163,6 +164,7 @@ pub record Run : Type 0 where
   pub given : Option (List ℤ)
   pub given_since : Option (List ℤ)
   pub input : Option (List ℕ)
+  pub left : Option (List ℕ)
   pub written : Option (List ℕ)
   pub written_since : Option (List ℕ)
 
@@ -213,11 +215,25 @@ pub record HasStopped (rules : Rules) (run : Run) : Type 0 where
       ⊎ ((later : List ℤ) → IfSome run.input (λ bytes.
       AppendsPrefix run.written run.written_since (after rules run.old (moments ++ later) (items true bytes)).answers))
 
--- a call that serves lines: what became of them, or what stands where it failed
+-- the lines that came whole, all of which were served and answered; nothing else was
+pub record HasServedWhole (rules : Rules) (run : Run) : Type 0 where
+  pub came : List ℕ
+  pub moments : List ℤ
+  pub taken : Consumes run.input run.left came
+  pub given : HasGiven run.given run.given_since moments
+  pub asked : length moments ≡ count_by (asks_clock rules) (items false came)
+  pub keeper : run.new ≡ (after rules run.old moments (items false came)).keeper
+  pub answered : Appends run.written run.written_since (after rules run.old moments (items false came)).answers
+
+-- A call that serves lines: what became of them, or what stands where it failed. Each line is served and answered before
+-- the next read: so it was wherever a read fails, and where no more may be made.
 pub record ServesLines {W : Type 0} (rules : Rules) (run : Run) (output output_new : Counted W)
     (result : Result Report NodeFault) : Type 0 where
   pub served : IfOk result (IsServed rules run)
   pub stopped : OnErr result (HasStopped rules run)
+  pub at_once : IfErr result (λ fault. IsOfReading fault → HasServedWhole rules run)
+  pub flushed : OnOk result (is_flushed output_new ≡ true)
+  pub stays_flushed : IfErr result (λ fault. IsOfReading fault → StaysFlushed output output_new)
   pub faults : IfErr result IsOfLines
   pub write_failed : result ≡ Err WriteFailed → HasFailed output output_new
 

@@ -4,7 +4,7 @@ use Rattle.rr_desk.specs.KeeperState.{KeeperState}
 use Rattle.rr_gossip.specs.declared.fault.GossipFault.{GossipFault}
 use Rattle.rr_node.specs.declared.fault.NodeFault.{NodeFault}
 use Rattle.rr_node.specs.declared.fault.NodeFault.TheVariants.{BadAddress, Memory}
-use Rattle.rr_host.specs.Calls.{DialCall, handed_back, passed_over, reached, unreached}
+use Rattle.rr_host.specs.Calls.{DialCall, due, handed_back, passed_over, reached, unreached}
 use Rattle.rr_host.specs.Streams.{Stream}
 use Rattle.rr_node.specs.Shelf.{ShelfCall, own_origin, peer_failed}
 use Rattle.rr_node.specs.Fault.{IsToBlame, of_session_fault}
@@ -23,13 +23,13 @@ EndsSession old new before after (Some fault) =
     (why : GossipFault) × (fault ≡ of_session_fault why) × IsToBlame before after fault
     × HasStoppedPulling old new before.input.left after.input.left before.output.written after.output.written why
 
--- the peer at an address isn't due, and nothing is done; or it can't be reached; or it is, and its stream is handed
--- back when the session is over
+-- the peer at an address isn't due, and nothing is done; or it is due, and can't be reached; or it is reached then, and
+-- its stream is handed back when the session is over
 abbrev pub EndsPull : List ℕ → KeeperState → KeeperState → List DialCall → Option NodeFault → Type 0
 EndsPull address old new dialed fault =
     ((dialed ≡ passed_over address ∷ []) × (new ≡ old) × (fault ≡ None))
-    ⊎ ((dialed ≡ unreached address ∷ []) × (new ≡ old) × (fault ≡ Some BadAddress))
-    ⊎ ((before after : Stream) × (dialed ≡ reached address before ∷ handed_back after ∷ [])
+    ⊎ ((dialed ≡ due address ∷ unreached address ∷ []) × (new ≡ old) × (fault ≡ Some BadAddress))
+    ⊎ ((before after : Stream) × (dialed ≡ due address ∷ reached address before ∷ handed_back after ∷ [])
     × EndsSession old new before after fault)
 
 -- what is told of a peer's fault, if it had one

@@ -3,7 +3,7 @@ use Rattle.std.specs.Prelude.{◌≡◌, ℕ, ◌+◌, nat_lt, List, [], length,
 use Rattle.rr_io.specs.declared.counted.Counted.{Counted}
 use Rattle.rr_host.specs.Log.{Log, HasNoted}
 use Rattle.rr_host.specs.Streams.{Output, output_of}
-use Rattle.rr_node.specs.Shelf.{ShelfCall, opened, own_origin, peer_failed, pulled, put_back, save_failed, taken, unopened, unwanted}
+use Rattle.rr_node.specs.Shelf.{ShelfCall, counts, opened, own_origin, past_horizon, peer_failed, pulled, put_back, save_failed, taken, unopened, unwanted}
 use Rattle.rr_node.specs.declared.shelf.Opening.{Opening}
 use Rattle.rr_node.specs.declared.shelf.Opening.TheVariants as opening
 use Rattle.rr_node.specs.declared.prepared_shelf.PreparedOpening.{PreparedOpening}
@@ -52,6 +52,8 @@ abbrev pub noted_call : ShelfNote → ShelfCall
 noted_call (note.LinesTaken report) = taken report
 noted_call (note.OwnOrigin number) = own_origin number
 noted_call (note.PeerFailed number fault) = peer_failed number fault
+noted_call (note.PastHorizon samples) = past_horizon samples
+noted_call (note.CountsCells wanted) = counts wanted
 noted_call (note.PullsEnded cells) = pulled cells
 noted_call (note.Opened it) = opening_of (Some it)
 noted_call (note.TookBack output whole) = put_back (output_of (λ w. Some w.items) output) whole

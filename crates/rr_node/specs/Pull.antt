@@ -1,5 +1,5 @@
 -- What a pull makes of a keeper.
-use Rattle.std.specs.Prelude.{◌≡◌, ◌⊎◌, ℕ, List, length, Option}
+use Rattle.std.specs.Prelude.{◌≡◌, ◌≤◌, ◌⊎◌, ℕ, List, length, take, Option}
 use Rattle.std.specs.Io.KnownBytes.{Appends}
 use Rattle.std.specs.List.{concat}
 use Rattle.rr_io.specs.Stream.{AppendsPrefix}
@@ -16,7 +16,7 @@ use Rattle.rr_gossip.specs.Transcript.{waiting}
 abbrev pub frames_of : KeeperState → List (List ℕ)
 frames_of k = sent_by k.schema (cells_of k)
 
--- all of its frames were sent, and all cells that the peer answered are joined, one by one and in order, as operations
+-- all of its frames were sent, no more than a session may have, and all cells that the peer answered are joined, one by one and in order, as operations
 -- that are pending
 pub record IsJoined (old joined : KeeperState) (had left : Option (List ℕ)) : Type 0 where
   pub cells : List NamedCell
@@ -25,6 +25,7 @@ pub record IsJoined (old joined : KeeperState) (had left : Option (List ℕ)) : 
 
 -- that was done, and then all that is pending was published
 pub record HasPulledAll (old new : KeeperState) (had left wrote written : Option (List ℕ)) : Type 0 where
+  pub few : length (frames_of old) ≤ MAX_FRAMES
   pub sent : Appends wrote written (concat (frames_of old))
   pub joined : KeeperState
   pub pulled : IsJoined old joined had left
@@ -34,7 +35,7 @@ pub record HasPulledAll (old new : KeeperState) (had left wrote written : Option
 -- one by one and in order
 pub record HasStoppedPulling (old new : KeeperState) (had left wrote written : Option (List ℕ))
     (fault : GossipFault) : Type 0 where
-  pub sent : AppendsPrefix wrote written (concat (frames_of old))
+  pub sent : AppendsPrefix wrote written (concat (take MAX_FRAMES (frames_of old)))
   pub cells : List NamedCell
   pub kept : HasJoined old new cells
   pub stopped : HasFailedToPull MAX_FRAMES old.schema (cells_of old) had left wrote written fault cells

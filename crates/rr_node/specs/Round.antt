@@ -12,9 +12,9 @@ use Rattle.rr_host.specs.Calls.{DialCall}
 use Rattle.rr_host.specs.Streams.{Stream}
 use Rattle.rr_node.specs.declared.round.Lines.{Lines}
 use Rattle.rr_node.specs.declared.round.Lines.TheVariants as lines
-use Rattle.rr_node.specs.Fault.{IsOfLines, IsToBlame, is_memory}
-use Rattle.rr_node.specs.Shelf.{ShelfCall, pulled, taken}
-use Rattle.rr_node.specs.Lines.{Run, IsServed, HasStopped, rules_of}
+use Rattle.rr_node.specs.Fault.{IsOfLines, IsOfReading, IsToBlame, is_memory}
+use Rattle.rr_node.specs.Shelf.{ShelfCall, counts, past_horizon, pulled, taken}
+use Rattle.rr_node.specs.Lines.{Run, IsServed, HasServedWhole, HasStopped, rules_of}
 use Rattle.rr_node.specs.Peers.{EndsPulls}
 use Rattle.rr_node.specs.Saving.{EndsSave}
 use Rattle.rr_host.specs.Visits.{Call, Failed, Gave, Over, TookBack}
@@ -38,6 +38,7 @@ run_of old new given since before after = record {
   given = given;
   given_since = since;
   input = before.input.left;
+  left = after.input.left;
   written = before.output.written;
   written_since = after.output.written;
 }
@@ -47,6 +48,7 @@ pub record EndsConnection (rules : Rules) (run : Run) (before after : Stream) (c
   pub result : Result Report NodeFault
   pub served : IfOk result (IsServed rules run)
   pub stopped : OnErr result (HasStopped rules run)
+  pub at_once : IfErr result (λ fault. IsOfReading fault → HasServedWhole rules run)
   pub faults : IfErr result IsOfLines
   pub blamed : IfErr result (IsToBlame before after)
   pub going : came ≡ going_on result
@@ -65,13 +67,20 @@ EndsLines config came old new given since calls =
 abbrev pub peers_of : Config → List (List ℕ)
 peers_of config = map string_bytes config.peers.items
 
--- the pulls from all peers, of which the number of cells then is told, and then a save; memory may run out in either
+-- after the pulls a shelf is told how many samples no archive kept, and that they are over; how many cells there are, if
+-- it wants that
+abbrev pub end_of_pulls : KeeperState → ℕ → Bool → List ShelfCall
+end_of_pulls k lost wanted =
+    past_horizon lost ∷ counts wanted
+    ∷ pulled (if wanted then Some (at_most_usize (len (cells_of k))) else None) ∷ []
+
+-- the pulls from all peers, of whose end it is told, and then a save; memory may run out in either
 abbrev pub EndsRest : Config → Option Bool → KeeperState → KeeperState → List DialCall → List ShelfCall → Type 0
 EndsRest config came old new dialed shelved =
     ((came ≡ None) × EndsPulls false 1 (peers_of config) old new dialed shelved)
-    ⊎ ((told saved : List ShelfCall) × EndsPulls true 1 (peers_of config) old new dialed told
+    ⊎ ((told saved : List ShelfCall) × (lost : ℕ) × (wanted : Bool) × EndsPulls true 1 (peers_of config) old new dialed told
     × (((came ≡ Some true) × EndsSave true new saved) ⊎ ((came ≡ None) × EndsSave false new saved))
-    × (shelved ≡ told ++ pulled (at_most_usize (len (cells_of new))) ∷ saved))
+    × (shelved ≡ told ++ (end_of_pulls new lost wanted ++ saved)))
 
 -- a whole round: where no connection will come, and where memory ran out in one, there is nothing else; else the shelf
 -- is told the connection's report first

@@ -1,7 +1,7 @@
 -- How the save of a round goes.
 use Rattle.std.specs.Prelude.{◌≡◌, ◌⊎◌, ◌↔◌, ◌<◌, ℕ, Bool, true, false, List, [], ◌∷◌, Result, Ok, Err, OnOk, is_ok}
 use Rattle.std.specs.FinMap.{entries, len}
-use Rattle.std.specs.Io.KnownBytes.{Appends}
+use Rattle.std.specs.Io.KnownBytes.{Appends, Keeps}
 use Rattle.rr_io.specs.Counted.{HasRisen}
 use Rattle.rr_io.specs.Stream.{AppendsPrefix}
 use Rattle.rr_desk.specs.KeeperState.{KeeperState, cells_of}
@@ -40,6 +40,7 @@ pub record IsWritten (k : KeeperState) (saved : Result (Unit {0}) SaveFault) (sh
   pub whole : OnOk saved (Appends before.written after.written (snapshot_of k))
   pub front : AppendsPrefix before.written after.written (snapshot_of k)
   pub too_many : (saved ≡ Err why.TooManyCells) ↔ (MAX_SNAPSHOT_CELLS < len (cells_of k))
+  pub nothing_written : saved ≡ Err why.TooManyCells → Keeps before.written after.written
   pub failed : saved ≡ Err why.WriteFailed → HasRisen before.failures after.failures
 
 -- the save, as far as memory goes: none is wanted; or its writer can't be opened, which is told; or it is written

@@ -1,18 +1,26 @@
 -- The connections that a seat serves.
 use Rattle.std.specs.Prelude.{◌≡◌, ◌≢◌, ◌⊎◌, ℕ, zero, suc, ◌<◌, ◌==◌, ◌-◌, ◌^◌, Bool, true, false, List, [], ◌∷◌, ◌++◌, Result, Ok, Err, IfErr, if◌then◌else◌}
+use Rattle.rr_gossip.specs.declared.fault.GossipFault.TheVariants.{SchemaDiffers}
 use Rattle.rr_node.specs.declared.fault.NodeFault.{NodeFault}
-use Rattle.rr_node.specs.declared.fault.NodeFault.TheVariants.{Memory}
+use Rattle.rr_node.specs.declared.fault.NodeFault.TheVariants.{Memory, Session}
 use Rattle.rr_node.specs.Fault.{IsOfReader, IsToBlame}
 use Rattle.rr_node.specs.Fetches.{ReaderAndGate, IsServed}
 use Rattle.rr_host.specs.Streams.{Stream}
-use Rattle.rr_host.specs.Visits.{Call, Gave, Failed, Over, TookBack}
+use Rattle.rr_host.specs.Visits.{Call, Differs, Gave, Failed, Over, TookBack}
+
+-- what the visits are told of a connection before it is handed back: that the peer has another schema, where this ended
+-- a session
+abbrev pub told_of_schema : Result (Unit {0}) NodeFault → List Call
+told_of_schema (Ok x) = []
+told_of_schema (Err (Session SchemaDiffers)) = Differs ∷ []
+told_of_schema (Err fault) = []
 
 -- a connection was given, served with this result, and handed back
 pub record IsStreamServed (result : Result (Unit {0}) NodeFault) (calls : List Call) (old new : ReaderAndGate)
     : Type 0 where
   pub before : Stream
   pub after : Stream
-  pub made : calls ≡ Gave before ∷ TookBack after ∷ []
+  pub made : calls ≡ Gave before ∷ (told_of_schema result ++ TookBack after ∷ [])
   pub served : IsServed result before.input.left after.input.left before.output.written after.output.written old new
   pub faults : IfErr result IsOfReader
   pub blamed : IfErr result (IsToBlame before after)

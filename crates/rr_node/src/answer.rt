@@ -41,8 +41,9 @@ fn write_point<A: Cells, C: Clock>(
     lead: Option<u64>,
 ) -> Result<Answer, AllocError>
     requires { IsWritable (point_view point.now) }
-    ensures { TakesPoint lead (point_view point.now) keeper.old keeper.new (C.given clock.old)
-        (C.given clock.new) result }
+    ensures taken { TakesPoint lead (point_view point.now) keeper.old keeper.new
+        (C.given clock.old) (C.given clock.new) result }
+    ensures renewals { C.renewals clock.new ≡ C.renewals clock.old }
 {
     let now = clock.now();
     match keeper.write(point, now, lead) {
@@ -63,8 +64,9 @@ fn write_sample<A: Cells, C: Clock>(
     time: Option<i64>,
     lead: Option<u64>,
 ) -> Result<Answer, AllocError>
-    ensures { TakesSamples lead ((key, value) ∷ []) time keeper.old keeper.new (C.given clock.old)
-        (C.given clock.new) result }
+    ensures taken { TakesSamples lead ((key, value) ∷ []) time keeper.old keeper.new
+        (C.given clock.old) (C.given clock.new) result }
+    ensures renewals { C.renewals clock.new ≡ C.renewals clock.old }
 {
     let now = clock.now();
     match keeper.write_sample(hint, key, time, value, now, lead) {
@@ -84,8 +86,9 @@ fn write_samples<A: Cells, C: Clock>(
     lead: Option<u64>,
 ) -> Result<Answer, AllocError>
     requires { length values.now ≤ MAX_FIELDS }
-    ensures { TakesSamples lead (map keyed_value values.now) time keeper.old keeper.new
+    ensures taken { TakesSamples lead (map keyed_value values.now) time keeper.old keeper.new
         (C.given clock.old) (C.given clock.new) result }
+    ensures renewals { C.renewals clock.new ≡ C.renewals clock.old }
 {
     let now = clock.now();
     match keeper.write_samples(values, time, now, lead) {
@@ -164,8 +167,9 @@ fn write_line<A: Cells, C: Clock>(
     line: &[u8],
 ) -> Result<Answer, AllocError>
     requires { HasNoLineFeed line.now }
-    ensures { HandledItem rules (feed.Line line.now) keeper.old keeper.new (C.given clock.old)
-        (C.given clock.new) result }
+    ensures handled { HandledItem rules (feed.Line line.now) keeper.old keeper.new
+        (C.given clock.old) (C.given clock.new) result }
+    ensures renewals { C.renewals clock.new ≡ C.renewals clock.old }
 {
     let precision = rules.precision;
     if let Some((hint, key, value, time)) = read_one(&*keeper, precision, last, line) {
@@ -201,8 +205,9 @@ pub(crate) fn write_item<A: Cells, C: Clock>(
     item: FeedLine<'_>,
 ) -> Result<Answer, AllocError>
     requires { IsLine (item_view item) }
-    ensures { HandledItem rules (item_view item.entry) keeper.old keeper.new (C.given clock.old)
-        (C.given clock.new) result }
+    ensures handled { HandledItem rules (item_view item.entry) keeper.old keeper.new
+        (C.given clock.old) (C.given clock.new) result }
+    ensures renewals { C.renewals clock.new ≡ C.renewals clock.old }
 {
     match item {
         FeedLine::Line(line) => write_line(alloc, keeper, clock, rules, last, line),

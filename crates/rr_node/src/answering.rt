@@ -1,4 +1,4 @@
-//! The answer to a line of a fetch connection, and to a query.
+//! The answer to a line of a fetch connection.
 
 ghost use Rattle.std.specs.Prelude.{◌≡◌, Option, Ok, IfOk, option_map};
 ghost use Rattle.rr_text.specs.Results.{GivesUnless};
@@ -6,7 +6,6 @@ ghost use Rattle.rr_feed.specs.Feed.{HandsOut};
 ghost use Rattle.rr_feed.specs.Items.{Item, item_view};
 ghost use Rattle.rr_fetch.specs.Requests.{request_view, IsFetchable};
 ghost use Rattle.rr_node.specs.Answering.{Next};
-ghost use Rattle.rr_web.specs.FetchLine.{fetch_line_of};
 ghost use Rattle.rr_node.specs.Fetches.{after_fetch, by_name, error_text, request_in, sight, AnswersItem, AnswersRequest};
 
 use rr_archive::Cells;
@@ -16,7 +15,6 @@ use rr_fetch::{Request, RequestFault, parse_request};
 use rr_schema::Schema;
 use rr_text::bytes::{LINE_FEED, SPACE};
 use rr_text::text::cut;
-use rr_web::fetch_line;
 use std::alloc::{AllocError, Global};
 
 /// What follows the word `fetch` and a space, where a line begins so.
@@ -82,23 +80,6 @@ pub fn answer_line<A: Cells, G: Gate>(
         Err(RequestFault::Memory) => Err(AllocError),
         Err(fault) => error_text(alloc, fault.name()),
     }
-}
-
-/// The answer to the fetch that a query asks for over HTTP, at the second `now`: that to its line.
-/// The cost is that of the fetch.
-pub fn answer_fetch<A: Cells, G: Gate>(
-    alloc: Global,
-    query: &[u8],
-    now: i64,
-    reader: &mut Reader<A>,
-    gate: &mut G,
-) -> Result<Vec<u8>, AllocError>
-    ensures { AnswersRequest (λ text. text.items)
-        (by_name (request_in reader.old.schema (fetch_line_of query.now now)))
-        (sight reader.old (G.calls gate.old)) (sight reader.new (G.calls gate.new)) result }
-{
-    let line = fetch_line(alloc, query, now)?;
-    answer_line(alloc, &line, reader, gate)
 }
 
 /// The answer to an item, and an empty line.

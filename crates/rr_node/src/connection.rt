@@ -1,11 +1,12 @@
 //! Lines of a connection as they come in pieces, handed to the keeper.
 
-ghost use Rattle.std.specs.Prelude.{◌≡◌, ℕ, ◌+◌, ◌*◌, ◌<◌, ◌≤◌, ◌^◌, ℤ, List, ◌++◌, length, OnOk, OnErr};
+ghost use Rattle.std.specs.Prelude.{◌≡◌, ◌≢◌, ℕ, ◌+◌, ◌*◌, ◌<◌, ◌≤◌, ◌^◌, ℤ, true, List, [], ◌++◌, length, OnOk, OnErr};
 ghost use Rattle.rr_text.specs.declared.limits.TheConstants.{MAX_FIELDS};
 ghost use Rattle.rr_node.specs.declared.lines.TheConstants.{PIECE};
 ghost use Rattle.rr_host.specs.Clock.{HasGiven};
 ghost use Rattle.rr_io.specs.Stream.{Writes};
-ghost use Rattle.rr_node.specs.Blame.{Sends};
+ghost use Rattle.rr_io.specs.Counted.{is_flushed};
+ghost use Rattle.rr_node.specs.Blame.{Sends, StaysFlushed};
 ghost use Rattle.rr_node.specs.Lines.{published_after, report_text};
 
 use crate::answer::{Answer, write_item};
@@ -127,6 +128,7 @@ impl Connection {
         clock: &mut C,
         rt: &T,
     ) -> Result<(), AllocError>
+        ensures renewals { C.renewals clock.new ≡ C.renewals clock.old }
         ensures served { OnOk result ((moments : List ℤ) × (text : List ℕ)
             × HasGiven (C.given clock.old) (C.given clock.new) moments
             × (answers.new.items ≡ answers.old.items ++ text)
@@ -152,8 +154,8 @@ impl Connection {
         clock: &mut C,
         rt: &T,
     ) -> Result<(), NodeFault>
-        ensures { AnswersLines C.given W.contents self.old self.new keeper.old keeper.new clock.old
-            clock.new output.old output.new result }
+        ensures { AnswersLines C.given C.renewals W.contents self.old self.new keeper.old keeper.new
+            clock.old clock.new output.old output.new result }
     {
         let mut answers = Vec::new(self.alloc);
         clock.renew();
@@ -170,8 +172,8 @@ impl Connection {
         clock: &mut C,
         rt: &T,
     ) -> Result<Report, NodeFault>
-        ensures { Finishes C.given W.contents self.old keeper.old keeper.new clock.old clock.new
-            output.old output.new result }
+        ensures { Finishes C.given C.renewals W.contents self.old keeper.old keeper.new clock.old
+            clock.new output.old output.new result }
     {
         self.feed.end();
         self.answer_lines(output, keeper, clock, rt)?;
@@ -183,7 +185,9 @@ impl Connection {
 
 /// Writes bytes and has the writer pass them on; nothing is done where there are none.
 fn send<W: Write>(output: &mut Counted<W>, bytes: &[u8]) -> Result<(), WriteFailed>
-    ensures { Writes W.contents output.old output.new bytes.now result }
+    ensures writes { Writes W.contents output.old output.new bytes.now result }
+    ensures flushed { OnOk result (bytes.now ≢ [] → is_flushed output.new ≡ true) }
+    ensures stays_flushed { OnOk result (StaysFlushed output.old output.new) }
 {
     if bytes.is_empty() {
         return Ok(());
@@ -198,7 +202,8 @@ fn send_report<W: Write>(
     output: &mut Counted<W>,
     report: &Report,
 ) -> Result<(), NodeFault>
-    ensures { Sends W.contents output.old output.new (report_text report.now) result }
+    ensures sends { Sends W.contents output.old output.new (report_text report.now) result }
+    ensures flushed { OnOk result (is_flushed output.new ≡ true) }
 {
     let mut text = Vec::new(alloc);
     push_report(&mut text, report)?;

@@ -40,7 +40,7 @@ mod seat;
 mod shelf;
 mod tally;
 
-pub use answering::{answer_fetch, answer_line};
+pub use answering::answer_line;
 pub use fault::NodeFault;
 pub use gates::OpenGate;
 pub use lines::{serve_lines, serve_lines_within};

@@ -1,6 +1,7 @@
 //! Lines from a reader, handed to the keeper of a desk.
 
-ghost use Rattle.rr_io.specs.Counted.{inner_of};
+ghost use Rattle.std.specs.Prelude.{OnOk};
+ghost use Rattle.rr_io.specs.Counted.{inner_of, HasRisen};
 ghost use Rattle.rr_text.specs.declared.limits.TheConstants.{MAX_READS};
 ghost use Rattle.rr_node.specs.Lines.{rules_of, ServesWithin};
 
@@ -47,15 +48,17 @@ pub fn serve_lines<A: Cells, R: Read, W: Write, C: Clock, T: Wait>(
     lead: Option<u64>,
     rt: &T,
 ) -> Result<Report, NodeFault>
-    ensures { ServesWithin MAX_READS (rules_of precision lead) (record {
+    ensures serves { ServesWithin MAX_READS (rules_of precision lead) (record {
       old = keeper.old;
       new = keeper.new;
       given = C.given clock.old;
       given_since = C.given clock.new;
       input = R.remaining (inner_of input.old);
+      left = R.remaining (inner_of input.new);
       written = W.contents (inner_of output.old);
       written_since = W.contents (inner_of output.new);
     }) input.old input.new output.old output.new result }
+    ensures renewed { OnOk result (HasRisen (C.renewals clock.old) (C.renewals clock.new)) }
 {
     serve_lines_within(
         alloc, input, output, keeper, clock, precision, lead, rt, MAX_READS,
@@ -78,15 +81,17 @@ pub fn serve_lines_within<A: Cells, R: Read, W: Write, C: Clock, T: Wait>(
     rt: &T,
     reads: u32,
 ) -> Result<Report, NodeFault>
-    ensures { ServesWithin reads (rules_of precision lead) (record {
+    ensures serves { ServesWithin reads (rules_of precision lead) (record {
       old = keeper.old;
       new = keeper.new;
       given = C.given clock.old;
       given_since = C.given clock.new;
       input = R.remaining (inner_of input.old);
+      left = R.remaining (inner_of input.new);
       written = W.contents (inner_of output.old);
       written_since = W.contents (inner_of output.new);
     }) input.old input.new output.old output.new result }
+    ensures renewed { OnOk result (HasRisen (C.renewals clock.old) (C.renewals clock.new)) }
 {
     let mut connection = Connection::new(alloc, Rules { precision, lead });
     let mut piece = [0u8; PIECE];

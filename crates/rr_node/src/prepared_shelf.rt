@@ -32,8 +32,12 @@ pub enum ShelfNote {
     OwnOrigin(usize),
     /// It was told that the pull of the peer of this number failed.
     PeerFailed(usize, NodeFault),
-    /// It was told that the pulls are over, and how many cells there are.
-    PullsEnded(usize),
+    /// It was told how many samples no archive kept.
+    PastHorizon(u64),
+    /// It said whether it wants the number of cells.
+    CountsCells(bool),
+    /// It was told that the pulls are over, and how many cells there are, if it wants that.
+    PullsEnded(Option<usize>),
     /// It was asked for a writer, and opened this.
     Opened(PreparedOpening),
     /// A writer was handed back, with a whole snapshot or not.
@@ -43,7 +47,7 @@ pub enum ShelfNote {
 }
 
 /// Keeps snapshots in memory: for each that is saved it opens what is prepared, and once all of
-/// that is used it wants none.
+/// that is used it wants none. It always wants the number of cells.
 ///
 /// Its calls are known as long as there is memory to note them; [`PreparedShelf::new`] makes room
 /// for some.
@@ -114,11 +118,11 @@ impl<'a> PreparedShelf<'a> {
 }
 
 impl<'a> Shelf for PreparedShelf<'a> {
-    ghost use Rattle.std.specs.Prelude.{◌≡◌, ◌+◌, [], ◌∷◌, Some};
+    ghost use Rattle.std.specs.Prelude.{◌≡◌, ◌+◌, [], ◌∷◌, true, Some};
     ghost use Rattle.rr_host.specs.Calls.{Grows};
     ghost use Rattle.rr_host.specs.Log.{HasNoted};
     ghost use Rattle.rr_host.specs.Streams.{output_of};
-    ghost use Rattle.rr_node.specs.Shelf.{opened, own_origin, peer_failed, pulled, put_back, save_failed, taken, unopened, unwanted};
+    ghost use Rattle.rr_node.specs.Shelf.{counts, opened, own_origin, past_horizon, peer_failed, pulled, put_back, save_failed, taken, unopened, unwanted};
     ghost use Rattle.rr_node.specs.PreparedShelf.{next_call, next_place, opening_call, Notes};
     ghost use Rattle.rr_node.specs.declared.shelf.Opening.TheVariants as opening;
 
@@ -144,7 +148,21 @@ impl<'a> Shelf for PreparedShelf<'a> {
         self.note(ShelfNote::PeerFailed(number, fault));
     }
 
-    fn pulls_ended(&mut self, cells: usize)
+    fn past_horizon(&mut self, samples: u64)
+        ensures { Notes (past_horizon samples) self.old self.new }
+    {
+        self.note(ShelfNote::PastHorizon(samples));
+    }
+
+    fn counts_cells(&mut self) -> bool
+        ensures wanted { result ≡ true }
+        ensures noted { Notes (counts true) self.old self.new }
+    {
+        self.note(ShelfNote::CountsCells(true));
+        true
+    }
+
+    fn pulls_ended(&mut self, cells: Option<usize>)
         ensures { Notes (pulled cells) self.old self.new }
     {
         self.note(ShelfNote::PullsEnded(cells));

@@ -1,22 +1,22 @@
 //! The connections of a reader: fetches, or one session in which a peer pulls.
 
-ghost use Rattle.std.specs.Prelude.{◌≡◌, ◌∷◌, ◌++◌, [], false, Err, IfErr, IfSome, OnErr, OnOk};
-ghost use Rattle.rr_io.specs.Counted.{inner_of};
+ghost use Rattle.std.specs.Prelude.{◌≡◌, ◌∷◌, ◌++◌, [], false, true, Err, IfErr, IfSome, OnErr, OnOk};
+ghost use Rattle.rr_io.specs.Counted.{ends_of, inner_of, is_flushed};
 ghost use Rattle.rr_io.specs.Stream.{HasFailed, HasFewReads, HasReads};
 ghost use Rattle.rr_text.specs.declared.limits.TheConstants.{MAX_READS};
 ghost use Rattle.rr_feed.specs.Feed.{items_left};
 ghost use Rattle.rr_desk.specs.ReaderState.{HasSeenMore};
 ghost use Rattle.rr_node.specs.Answering.{HasWritten, HasWrittenSome};
-ghost use Rattle.rr_node.specs.Blame.{ReadsFirst, ReadsWithin, WritesOut};
-ghost use Rattle.rr_node.specs.Fault.{IsOfLines, IsOfReader, is_of_session};
-ghost use Rattle.rr_node.specs.Fetches.{sight, is_pull, GivesSession, HasAnswered, HasAnsweredSome, IsServed};
+ghost use Rattle.rr_node.specs.Blame.{ReadsFirst, ReadsWithin, StaysFlushed, WritesOut};
+ghost use Rattle.rr_node.specs.Fault.{IsOfLines, IsOfReader, IsOfReading, is_of_session};
+ghost use Rattle.rr_node.specs.Fetches.{sight, is_pull, GivesSession, HasAnswered, HasAnsweredSome, HasAnsweredTaken, IsServed};
 
 use crate::answering::next_answer;
 use crate::fault::NodeFault;
 use rr_archive::Cells;
 use rr_desk::{Gate, Reader};
 use rr_feed::{Feed, FeedFault};
-use rr_gossip::{GossipFault, MAX_FRAMES, give_after};
+use rr_gossip::{GossipFault, give_after};
 use rr_io::Counted;
 use rr_io::stream::{flush, read_once, write_all};
 use rr_text::limits::MAX_READS;
@@ -64,6 +64,7 @@ fn answer_items<A: Cells, W: Write, G: Gate>(
     ensures part_written { OnErr result (HasWrittenSome feed.old feed.new
         (sight reader.old (G.calls gate.old)) reader.new
         (W.contents (inner_of output.old)) (W.contents (inner_of output.new))) }
+    ensures flushed { OnOk result (is_flushed output.new ≡ true) }
     ensures writes { WritesOut output.old output.new result }
 {
     while let Some(text) = next_answer(alloc, feed, reader, gate)? {
@@ -84,12 +85,20 @@ fn answer_lines<A: Cells, R: Read, W: Write, G: Gate>(
     reads: u32,
 ) -> Result<(), NodeFault>
     ensures answered { OnOk result (IfSome (R.remaining (inner_of input.old)) (λ rest.
-        HasAnswered (first ∷ rest) (sight reader.old (G.calls gate.old))
+        HasAnswered true (first ∷ rest) (sight reader.old (G.calls gate.old))
         (sight reader.new (G.calls gate.new))
         (W.contents (inner_of output.old)) (W.contents (inner_of output.new)))) }
     ensures part_written { OnErr result (IfSome (R.remaining (inner_of input.old)) (λ rest.
         HasAnsweredSome (first ∷ rest) (sight reader.old (G.calls gate.old)) reader.new
         (W.contents (inner_of output.old)) (W.contents (inner_of output.new)))) }
+    ensures at_once { IfErr result (λ fault. IsOfReading fault
+        → HasAnsweredTaken (first ∷ []) (R.remaining (inner_of input.old))
+        (R.remaining (inner_of input.new)) (sight reader.old (G.calls gate.old))
+        (sight reader.new (G.calls gate.new))
+        (W.contents (inner_of output.old)) (W.contents (inner_of output.new))) }
+    ensures flushed { OnOk result (is_flushed output.new ≡ true) }
+    ensures stays_flushed { IfErr result (λ fault. IsOfReading fault
+        → is_flushed output.new ≡ true) }
     ensures seen { HasSeenMore reader.old reader.new }
     ensures reads { ReadsWithin reads input.old input.new result }
     ensures write_failed { result ≡ Err NodeFault.WriteFailed → HasFailed output.old output.new }
@@ -98,9 +107,9 @@ fn answer_lines<A: Cells, R: Read, W: Write, G: Gate>(
 {
     let mut feed = Feed::new(alloc);
     push(&mut feed, &[first])?;
+    answer_items(alloc, &mut feed, output, reader, gate)?;
     let mut piece = [0u8; PIECE];
     for _ in 0..reads {
-        answer_items(alloc, &mut feed, output, reader, gate)?;
         let Some(given) = read_once(input, &mut piece)? else {
             continue;
         };
@@ -109,6 +118,7 @@ fn answer_lines<A: Cells, R: Read, W: Write, G: Gate>(
             return answer_items(alloc, &mut feed, output, reader, gate);
         }
         push(&mut feed, &piece[..given])?;
+        answer_items(alloc, &mut feed, output, reader, gate)?;
     }
     Err(NodeFault::TooManyReads)
 }
@@ -123,7 +133,7 @@ fn give_session<A: Cells, R: Read, W: Write>(
     ensures { GivesSession R.remaining W.contents reader.old reader.new input.old input.new
         output.old output.new result }
 {
-    give_after(alloc, &[0], input, output, reader, MAX_FRAMES)?;
+    give_after(alloc, 0, input, output, reader)?;
     Ok(())
 }
 
@@ -154,6 +164,11 @@ pub fn serve_reader<A: Cells, R: Read, W: Write, G: Gate>(
         (W.contents (inner_of output.old)) (W.contents (inner_of output.new))
         (sight reader.old (G.calls gate.old)) (sight reader.new (G.calls gate.new)) }
 
+    // What is passed on.
+    ensures flushed { OnOk result (StaysFlushed output.old output.new) }
+    ensures stays_flushed { IfErr result (λ fault. IsOfReading fault
+        → StaysFlushed output.old output.new) }
+
     // Within which reads lines are answered.
     ensures limit { IfSome (R.remaining (inner_of input.old)) (λ bytes. is_pull bytes ≡ false
         → HasFewReads MAX_READS input.old input.new) }
@@ -163,6 +178,8 @@ pub fn serve_reader<A: Cells, R: Read, W: Write, G: Gate>(
     ensures read_failed { result ≡ Err NodeFault.ReadFailed → HasFailed input.old input.new }
     ensures too_many { result ≡ Err NodeFault.TooManyReads
         → HasReads MAX_READS input.old input.new }
+    ensures no_end { result ≡ Err NodeFault.TooManyReads
+        → ends_of input.new ≡ ends_of input.old }
     ensures write_failed { result ≡ Err NodeFault.WriteFailed → HasFailed output.old output.new }
     ensures session_read_failed { result ≡ Err (NodeFault.Session GossipFault.ReadFailed)
         → HasFailed input.old input.new }

@@ -1,9 +1,9 @@
 //! A round of the keeper: the lines of a connection, the pulls from all peers, and a save.
 
-ghost use Rattle.std.specs.Prelude.{◌≡◌, IfErr, List};
+ghost use Rattle.std.specs.Prelude.{◌≡◌, ℕ, Bool, IfErr, List};
 ghost use Rattle.rr_host.specs.Calls.{DialCall, Grows};
 ghost use Rattle.rr_node.specs.Shelf.{ShelfCall};
-ghost use Rattle.rr_node.specs.Round.{EndsLines, EndsRound, came_in, going_on};
+ghost use Rattle.rr_node.specs.Round.{EndsLines, EndsRound, came_in, end_of_pulls, going_on};
 ghost use Rattle.rr_host.specs.Visits.{Call, HasCalled};
 
 use crate::fault::NodeFault;
@@ -72,10 +72,23 @@ fn take_lines<A: Cells, V: Visits, C: Clock, T: Wait>(
     going_on(served)
 }
 
+/// Tells a shelf that a round's pulls are over: how many samples no archive kept, and how many cells
+/// there are, if it wants that.
+fn end_pulls<A: Cells, S: Shelf>(shelf: &mut S, keeper: &Keeper<A>)
+    ensures { (lost : ℕ) × (wanted : Bool) × Grows (S.calls shelf.old) (S.calls shelf.new)
+        (end_of_pulls keeper.now lost wanted) }
+{
+    shelf.past_horizon(keeper.past_horizon());
+    if shelf.counts_cells() {
+        shelf.pulls_ended(Some(keeper.cell_count()));
+    } else {
+        shelf.pulls_ended(None);
+    }
+}
+
 /// One round of the keeper of a node: it serves the lines of the next connection, tells the shelf
 /// their report, pulls from each peer of the configuration that is due, in their order, tells the
-/// shelf how many cells the node then has, and saves a snapshot where the shelf wants one. The
-/// answer is whether a connection came; where none will come any more, nothing else is done.
+/// shelf that it has, and saves a snapshot where the shelf wants one. The answer is whether a connection came; where none will come any more, nothing else is done.
 ///
 /// A fault of the connection ends the connection alone. A peer that can't be reached or whose pull
 /// fails is passed over, and a save that fails too; both are told to the shelf, as is a peer with
@@ -104,8 +117,7 @@ pub fn keep_round<A: Cells, V: Visits, D: Dial, S: Shelf, C: Clock, T: Wait>(
     };
     shelf.lines_taken(report);
     pull_peers(alloc, &config.peers, dial, shelf, keeper, rt)?;
-    shelf.past_horizon(keeper.past_horizon());
-    shelf.pulls_ended(keeper.cell_count());
+    end_pulls(shelf, keeper);
     save_to(alloc, shelf, keeper)?;
     Ok(true)
 }

@@ -25,7 +25,7 @@ pub trait Shelf {
     ghost use Rattle.std.specs.Prelude.{List, [], ◌∷◌, Option};
     ghost use Rattle.rr_host.specs.Calls.{Grows};
     ghost use Rattle.rr_host.specs.Streams.{output_of};
-    ghost use Rattle.rr_node.specs.Shelf.{ShelfCall, opened, own_origin, peer_failed, pulled, put_back, save_failed, taken, unopened, unwanted};
+    ghost use Rattle.rr_node.specs.Shelf.{ShelfCall, counts, opened, own_origin, past_horizon, peer_failed, pulled, put_back, save_failed, taken, unopened, unwanted};
     ghost use Rattle.rr_node.specs.declared.shelf.Opening.TheVariants as opening;
 
     /// Where a snapshot is written.
@@ -48,17 +48,18 @@ pub trait Shelf {
     fn peer_failed(&mut self, number: usize, fault: NodeFault)
         ensures { Grows (calls self.old) (calls self.new) (peer_failed number fault ∷ []) };
 
-    /// Is told that a round's pulls are over, and how many cells the node then has.
-    fn pulls_ended(&mut self, cells: usize)
+    /// Says whether it wants to be told how many cells the node has after this round's pulls, which are
+    /// counted series by series for it.
+    fn counts_cells(&mut self) -> bool
+        ensures { Grows (calls self.old) (calls self.new) (counts result ∷ []) };
+
+    /// Is told that a round's pulls are over, and how many cells the node then has, if it wants that.
+    fn pulls_ended(&mut self, cells: Option<usize>)
         ensures { Grows (calls self.old) (calls self.new) (pulled cells ∷ []) };
 
-    /// Is told how many samples the keeper was given since it began that no archive kept. It isn't
-    /// one of the calls that are seen.
+    /// Is told how many samples the keeper was given since it began that no archive kept.
     fn past_horizon(&mut self, samples: u64)
-        ensures { calls self.new ≡ calls self.old }
-    {
-        let _ = samples;
-    }
+        ensures { Grows (calls self.old) (calls self.new) (past_horizon samples ∷ []) };
 
     /// Opens a writer for a snapshot, where one is wanted.
     fn open(&mut self) -> Opening<Self::Output>

@@ -5,4 +5,5 @@ pub mod PullsLemmas
 pub mod GivingLemmas
 pub mod CallsLemmas
 pub mod SessionsLemmas
+pub mod WholeSessions
 pub mod ExampleLemmas

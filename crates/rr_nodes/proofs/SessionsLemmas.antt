@@ -82,7 +82,7 @@ gave_all : (limit : ℕ) (s : Layout) (m : Cells) (before had answer : List ℕ)
     → HasGiven limit s m [] (Some (before ++ had)) left (Some []) (Some answer)
 unfolding heard_all
 gave_all limit s m before had answer left g = record
-    { last = g.last; heard = heard_all limit s m g.last before had left g.heard; replied = g.replied }
+    { last = g.last; heard = heard_all limit s m g.last before had left g.heard; few = g.few; replied = g.replied }
 
 pub sessions_bring_what_is_lacking : SessionsBringWhatIsLacking
 sessions_bring_what_is_lacking s had given cells is each session =

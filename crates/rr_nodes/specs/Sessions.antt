@@ -60,6 +60,12 @@ SessionsBringWhatIsLacking =
     → IsSession s had given cells
     → cells ≡ lacking given had
 
+-- and two sides that have cells of the schema can have a session that brings them
+abbrev pub SidesHaveASession : Type 0
+SidesHaveASession =
+    (s : Layout) (had given : Cells) → IsLayout s → All (IsCellOf s) (entries had) → All (IsCellOf s) (entries given)
+    → IsSession s had given (lacking given had)
+
 -- a session that is cut: the side that gives heard the same, and of its answer, which it may not have written whole,
 -- the side that pulls could read a beginning, and stopped; these are the cells that it had by then
 pub record IsCutSession (s : Layout) (had given : Cells) (cells : List NamedCell) : Type 0 where
@@ -86,6 +92,12 @@ CutSessionsBringAFront =
     (s : Layout) (had given : Cells) (cells : List NamedCell) → IsLayout s → All (IsCellOf s) (entries had)
     → IsCutSession s had given cells
     → IsPrefix cells (lacking given had)
+
+-- and such sides can have a session that is cut before anything came
+abbrev pub SidesHaveACutSession : Type 0
+SidesHaveACutSession =
+    (s : Layout) (had given : Cells) → IsLayout s → All (IsCellOf s) (entries had) → All (IsCellOf s) (entries given)
+    → IsCutSession s had given []
 
 -- none where nothing came, as from a side that stopped before it heard all that was sent
 abbrev pub SilentSessionsBringNothing : Type 0

@@ -6,7 +6,7 @@ ghost use Rattle.rr_nodes.specs.Calls.{CallsAnswerFromSamples, WritesArePuts, Pa
 ghost use Rattle.rr_nodes.specs.Giving.{GivenAreThere, UnusedHaveNoCells, SavedIsLoadedElsewhere};
 ghost use Rattle.rr_nodes.specs.Models.{cell_model, sample_model};
 ghost use Rattle.rr_nodes.specs.Pulls.{TakesAreInOrder, PullsBringAll};
-ghost use Rattle.rr_nodes.specs.Sessions.{SessionsBringWhatIsLacking, SessionsAreDeeds, PullIsDeeds, PullsAreJoins, CutSessionsBringAFront, SilentSessionsBringNothing, CutPullIsDeeds, CutPullsAreJoins};
+ghost use Rattle.rr_nodes.specs.Sessions.{SessionsBringWhatIsLacking, SessionsAreDeeds, PullIsDeeds, PullsAreJoins, CutSessionsBringAFront, SilentSessionsBringNothing, CutPullIsDeeds, CutPullsAreJoins, SidesHaveASession, SidesHaveACutSession};
 
 /// Whatever is done at however many nodes, in whatever order: at each moment each node has the
 /// cells of the marks that reached it, so a fetch is answered by exactly these; and who knows the
@@ -72,6 +72,13 @@ pub fn cut_sessions_are_deeds()
     ensures silent { SilentSessionsBringNothing }
     ensures keeper { CutPullIsDeeds }
     ensures calls { CutPullsAreJoins }
+{}
+
+/// Sessions as the two laws above take them are there, whole and cut: any two sides of cells of the
+/// schema can have one.
+pub fn sides_have_sessions()
+    ensures whole { SidesHaveASession }
+    ensures cut { SidesHaveACutSession }
 {}
 
 /// Each cell that a reader gives is there, so whoever joins it takes it; and what a keeper saves is

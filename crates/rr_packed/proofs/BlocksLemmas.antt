@@ -19,7 +19,7 @@ use Rattle.rr_archive.specs.Changes.{entry_after}
 use Rattle.rr_packed.specs.declared.held_block.HeldBlock.{HeldBlock}
 use Rattle.rr_packed.specs.declared.blocks.Blocks.{Blocks}
 use Rattle.rr_packed.specs.Slots.{block_of, row_of}
-use Rattle.rr_packed.specs.Blocks.{all_blocks, stored, stored_in, IsRowSet, block_at, items_of_block, items_by_slot, has_room_held, block_has_room, has_room_at, starts_before, IsBlockSet, IsSlotSet}
+use Rattle.rr_packed.specs.Blocks.{all_blocks, held, is_shared, stored, stored_in, IsRowSet, block_at, items_of_block, items_by_slot, has_room_held, block_has_room, has_room_at, starts_before, IsBlockSet, IsSlotSet}
 use Rattle.rr_packed.proofs.SlotLemmas.{same_slot_by, block_on, row_on, before_block, earlier_block}
 
 same_number : (a b : ℤ) → is_at (int_cmp a) b ≡ true → a ≡ b
@@ -239,12 +239,13 @@ IsCopied blocks left new = map stored new ++ map stored left ≡ map stored bloc
 
 pub copied_more : (blocks left rest new more : List (ℤ × HeldBlock)) (number : ℤ) (b copy : HeldBlock)
     → IsCopied blocks left new → left ≡ (number, b) ∷ rest → stored_in copy ≡ stored_in b
+    → is_shared copy ≡ is_shared b
     → more ≡ new ++ (number, copy) ∷ [] → IsCopied blocks rest more
-copied_more blocks left rest new more number b copy c is same add =
+copied_more blocks left rest new more number b copy c is same shared add =
     ap (λ l. map stored l ++ map stored rest) add
     ∙ ap (λ l. l ++ map stored rest) (map-append stored new ((number, copy) ∷ []))
-    ∙ append_assoc (map stored new) ((number, stored_in copy) ∷ []) (map stored rest)
-    ∙ ap (λ f. map stored new ++ (number, f) ∷ map stored rest) same
+    ∙ append_assoc (map stored new) ((number, held copy) ∷ []) (map stored rest)
+    ∙ (λ i. map stored new ++ (number, (same i, shared i)) ∷ map stored rest)
     ∙ ap (λ l. map stored new ++ map stored l) (sym is)
     ∙ c
 
@@ -275,15 +276,15 @@ copied_rows blocks new same = λ i s. (
     ∙ ap (λ l. read (lookup (is_at (int_cmp (block_of s))) l) (row_of s)) same
     ∙ sym (by_stored blocks (block_of s) (row_of s))) i
   where
-    read : Option (ℕ → List Entry) → ℕ → List Entry
+    read : Option ((ℕ → List Entry) × Bool) → ℕ → List Entry
     read None n = []
-    read (Some f) n = f n
+    read (Some f) n = f.0 n
 
-    read_of : (o : Option HeldBlock) (n : ℕ) → items_of_block o n ≡ read (option_map stored_in o) n
+    read_of : (o : Option HeldBlock) (n : ℕ) → items_of_block o n ≡ read (option_map held o) n
     read_of None n = refl
     read_of (Some b) n = refl
 
     by_stored : (bs : List (ℤ × HeldBlock)) (q : ℤ) (n : ℕ)
         → items_of_block (block_at bs q) n ≡ read (lookup (is_at (int_cmp q)) (map stored bs)) n
     by_stored bs q n = read_of (block_at bs q) n ∙ ap (λ o. read o n)
-        (sym (lookup-map_values stored_in (is_at (int_cmp q)) bs))
+        (sym (lookup-map_values held (is_at (int_cmp q)) bs))

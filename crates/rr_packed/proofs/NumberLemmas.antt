@@ -6,6 +6,7 @@ use Rattle.std.specs.List.Sorted.{IsStrictlySortedBy, IsPartitionedBy, IsPartiti
 use Rattle.std.specs.Map.{keys_of}
 use Rattle.std.specs.Option.{option_to_list}
 use Rattle.std.specs.BTreeMap.{is_at}
+use Rattle.std.specs.Int.{int_min}
 use Rattle.std.specs.Cmp.{int_cmp_total, eq_by_cmp_equiv}
 use Rattle.std.proofs.lemmas.Bool.{cases_lt}
 use Rattle.std.proofs.lemmas.Int.{ints}
@@ -16,6 +17,7 @@ use Rattle.std.proofs.lemmas.Map.{lookup-insert, lookup-none, none_passes_from_l
 use Rattle.std.proofs.lemmas.Map.Entries.{none_below_head, lookup_from_place}
 use Rattle.std.proofs.lemmas.Map.Keys.{IsDistinct-from_sorted}
 use Rattle.rr_packed.specs.declared.held_block.HeldBlock.{HeldBlock}
+use Rattle.rr_packed.specs.Slots.{begins_before}
 use Rattle.rr_packed.specs.Blocks.{block_at, count_before, starts_before, IsBlockSet, IsPlaceOf, IsGapFor}
 
 abbrev pub Ascend : List (ℤ × HeldBlock) → Type 0
@@ -113,6 +115,41 @@ pub ascend_rest : (bs : List (ℤ × HeldBlock)) → Ascend bs → Ascend (drop 
 unfolding IsStrictlySortedBy
 ascend_rest [] up = tt
 ascend_rest (b ∷ bs) up = up.1
+
+-- ---- no block before a number
+
+pub starts_by_number : (d : ℤ) (bs : List (ℤ × HeldBlock)) → starts_before d bs ≡ begins_before d (keys_of bs)
+starts_by_number d [] = refl
+starts_by_number d (b ∷ bs) = refl
+
+-- nor before a smaller one
+pub begins_later : (d e : ℤ) (ns : List ℤ) → begins_before d ns ≡ false → int_lt d e ≡ false
+    → begins_before e ns ≡ false
+begins_later d e [] kept less = refl
+begins_later d e (n ∷ ns) kept less = grind (arith, ints)
+
+-- nor once the first has left
+pub begins_rest : (d : ℤ) (bs : List (ℤ × HeldBlock)) → Ascend bs → begins_before d (keys_of bs) ≡ false
+    → begins_before d (keys_of (drop 1 bs)) ≡ false
+unfolding IsStrictlySortedBy
+begins_rest d [] up kept = refl
+begins_rest d (a ∷ []) up kept = refl
+begins_rest d (a ∷ b ∷ bs) up kept = later a.0 b.0 up.0.0 kept
+  where
+    later : (m n : ℤ) → int_cmp m n ≡ Less → int_lt m d ≡ false → int_lt n d ≡ false
+    later m n less kept = grind (arith, ints)
+
+pub begins_front : (d : ℤ) (xs ys : List (ℤ × HeldBlock)) → begins_before d (keys_of (xs ++ ys)) ≡ false
+    → begins_before d (keys_of xs) ≡ false
+begins_front d [] ys kept = refl
+begins_front d (x ∷ xs) ys kept = kept
+
+-- the smaller of two numbers is up to each
+pub min_left : (d n : ℤ) → int_lt d (int_min d n) ≡ false
+min_left d n = grind (arith, ints)
+
+pub min_right : (d n : ℤ) → int_lt n (int_min d n) ≡ false
+min_right d n = grind (arith, ints)
 
 count_within : (n : ℤ) (bs : List (ℤ × HeldBlock)) → count_before n bs ≤ length bs
 count_within n [] = omega arith
@@ -245,6 +282,7 @@ pub record IsPut (n : ℤ) (was b : HeldBlock) (old new : List (ℤ × HeldBlock
   pub has : block_at old n ≡ Some was
   pub sets : IsBlockSet n b old new
   pub ascend : Ascend new
+  pub numbers : keys_of new ≡ keys_of old
 
 put_at : (bs new : List (ℤ × HeldBlock)) (n : ℤ) (at : ℕ) (was : ℤ × HeldBlock) (b : HeldBlock) → Ascend bs
     → IsPlaceOf n bs at → was ≡ get_or bs at was → set bs at (was.0, b) ≡ new → IsPut n was.1 b bs new
@@ -252,6 +290,8 @@ put_at bs new n at was b up place is same = record {
   has = block_there bs n at was up place is;
   sets = subst (IsBlockSet n b bs) same (block_put bs n at was b up place is);
   ascend = subst Ascend same (ascend_put bs n at was b up place is);
+  numbers = ap keys_of (sym same) ∙ ap (λ k. keys_of (set bs at (k, b))) (number_there bs n at was is place)
+      ∙ numbers_stay bs n at b place;
 }
 
 pub older_put : (older rest : List (ℤ × HeldBlock)) (n : ℤ) (at : ℕ) (was : ℤ × HeldBlock) (b : HeldBlock)
@@ -348,11 +388,20 @@ inserted_there bs n zero b h = refl
 inserted_there [] n (suc at) b h = absurd (omega arith)
 inserted_there (x ∷ bs) n (suc at) b h = inserted_there bs n at b (omega arith)
 
+-- no block is before a number to which one is added that isn't either
+begins_with : (d n : ℤ) (at : ℕ) (b : HeldBlock) (bs : List (ℤ × HeldBlock)) → begins_before d (keys_of bs) ≡ false
+    → int_lt n d ≡ false → begins_before d (keys_of (insert bs at (n, b))) ≡ false
+begins_with d n zero b bs kept fits = fits
+begins_with d n (suc at) b [] kept fits = fits
+begins_with d n (suc at) b (x ∷ bs) kept fits = kept
+
 -- a block was added, at a place
 pub record IsAdded (n : ℤ) (at : ℕ) (b : HeldBlock) (old new : List (ℤ × HeldBlock)) : Type 0 where
   pub sets : IsBlockSet n b old new
   pub place : IsPlaceOf n new at
   pub ascend : Ascend new
+  pub none_before : (d : ℤ) → begins_before d (keys_of old) ≡ false → int_lt n d ≡ false
+      → begins_before d (keys_of new) ≡ false
 
 added_at : (bs new : List (ℤ × HeldBlock)) (n : ℤ) (at : ℕ) (b : HeldBlock) → Ascend bs → IsGapFor n bs at
     → insert bs at (n, b) ≡ new → IsAdded n at b bs new
@@ -361,6 +410,7 @@ added_at bs new n at b up gap same = record {
   sets = λ q. ap (λ l. block_at l q) (sym same) ∙ lookup-insert (eq_by_cmp_equiv int_cmp_total) n b q bs at
       (none_passes_from_lookup (is_at (int_cmp n)) bs gap.0);
   ascend = subst Ascend (ap (λ i. insert bs i (n, b)) (sym gap.1) ∙ same) (ascend_with n b bs up gap.0);
+  none_before = λ d kept fits. subst (λ l. begins_before d (keys_of l) ≡ false) same (begins_with d n at b bs kept fits);
 }
 
 -- before the newest, and as the newest

@@ -1,5 +1,5 @@
 -- What blocks store: the entries of a row by its number in a block, and by its slot.
-use Rattle.std.specs.Prelude.{◌≡◌, ℕ, zero, suc, ◌+◌, ℤ, ◌==◌, Bool, false, ◌&&◌, List, [], ◌∷◌, ◌++◌, length, Option, Some, None, is_none, slice_get, int_lt, Result, IsOk, IsTrue, OnOk, if◌then◌else◌}
+use Rattle.std.specs.Prelude.{◌≡◌, ℕ, zero, suc, ◌+◌, ℤ, ◌==◌, Bool, true, false, ◌&&◌, List, [], ◌∷◌, ◌++◌, length, Option, Some, None, is_none, slice_get, int_lt, Result, IsOk, IsTrue, OnOk, if◌then◌else◌}
 use Rattle.std.specs.declared.alloc.AllocError.{AllocError}
 use Rattle.std.specs.List.{prefix_len}
 use Rattle.std.specs.Map.{lookup, keys_of}
@@ -74,6 +74,11 @@ abbrev pub stored_in : HeldBlock → ℕ → List Entry
 stored_in (Own b) = items_in b
 stored_in (Shared b) = items_in b.value
 
+-- whether others may have it too
+abbrev pub is_shared : HeldBlock → Bool
+is_shared (Own b) = false
+is_shared (Shared b) = true
+
 -- whether the entry of an origin takes no memory: a shared block is copied first
 abbrev pub has_room_held : HeldBlock → ℕ → ℕ → Bool
 has_room_held (Own b) number origin = has_room_in b number origin
@@ -85,9 +90,12 @@ has_room_held (Shared b) number origin = false
 abbrev pub all_blocks : Blocks → List (ℤ × HeldBlock)
 all_blocks b = b.older.items ++ option_to_list b.newest
 
--- a block as what it stores, with its number
-abbrev pub stored : ℤ × HeldBlock → ℤ × (ℕ → List Entry)
-stored b = (b.0, stored_in b.1)
+-- a block as what it stores and whether it is shared, with its number
+abbrev pub held : HeldBlock → (ℕ → List Entry) × Bool
+held b = (stored_in b, is_shared b)
+
+abbrev pub stored : ℤ × HeldBlock → ℤ × ((ℕ → List Entry) × Bool)
+stored b = (b.0, held b.1)
 
 -- the block of a number, if it is there
 abbrev pub block_at : List (ℤ × HeldBlock) → ℤ → Option HeldBlock

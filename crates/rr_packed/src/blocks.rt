@@ -1,12 +1,12 @@
 //! The blocks of an archive, in order of their numbers.
-ghost use Rattle.std.specs.Prelude.{◌≡◌, ◌<◌, ◌≤◌, ◌+ℤ◌, ◌⊎◌, ◌↔◌, ◌++◌, ℕ, ℤ, pos, None, [], ◌∷◌, drop, length, map, int_lt, slice_index_or, IfOk, IfErr, IfSome, IsSome, IsTrue, IsOk, OnOk, OnErr, is_some};
+ghost use Rattle.std.specs.Prelude.{◌≡◌, ◌<◌, ◌≤◌, ◌+ℤ◌, ◌⊎◌, ◌↔◌, ◌++◌, ℕ, ℤ, pos, None, [], ◌∷◌, drop, length, map, int_lt, slice_index_or, IfOk, IfErr, IfSome, IsSome, IsTrue, false, IsOk, OnOk, OnErr, is_some};
 ghost use Rattle.std.proofs.Props.{props};
 ghost use Rattle.std.specs.List.Sorted.{IsStrictlySortedBy};
 ghost use Rattle.std.specs.Map.{keys_of};
 ghost use Rattle.std.specs.Option.{option_copied, option_to_list};
 ghost use Rattle.std.specs.Ordering.{int_cmp};
 ghost use Rattle.std.specs.VecDeque.{deque_len, deque_capacity};
-ghost use Rattle.rr_packed.specs.Slots.{block_of, row_of};
+ghost use Rattle.rr_packed.specs.Slots.{block_of, row_of, begins_before};
 
 use crate::held_block::HeldBlock;
 use crate::row::Row;
@@ -25,8 +25,9 @@ use std::collections::VecDeque;
 /// the list of the older ones, and a series with few rows takes no list. The list takes memory for
 /// 1, 2, 4, 8 .. blocks.
 ///
-/// The number that the blocks were last dropped before is kept, so that the first of them is looked
-/// at again only when a later one is asked for: once in 64 slots.
+/// The number that the blocks were last dropped before is kept, or that of an earlier block that was
+/// added since. No block is before it, so that the first of them is looked at again only when a later
+/// one is asked for: once in 64 slots.
 #[derive(Drop)]
 pub(crate) struct Blocks {
     pub(crate) alloc: Global,
@@ -35,6 +36,8 @@ pub(crate) struct Blocks {
     pub(crate) dropped: i64,
     ghost ordered: { IsStrictlySortedBy int_cmp
         (keys_of (older.items ++ option_to_list newest)) } by { Prim.hlevel props },
+    ghost none_before: { begins_before dropped (keys_of (older.items ++ option_to_list newest))
+        ≡ false },
 }
 
 /// The number of the block of a slot.
@@ -176,9 +179,11 @@ impl Blocks {
     {
         if self.nth(at).is_some() {
             self.make_place()?;
+            self.dropped = self.dropped.min(number);
             Ok(self.older.insert(at, (number, block))?)
         } else {
             self.retire()?;
+            self.dropped = self.dropped.min(number);
             self.newest = Some((number, block));
             Ok(())
         }
@@ -313,8 +318,9 @@ impl Blocks {
     /// Takes the blocks out whose slots are all before this one.
     #[inline(always)]
     pub(crate) fn drop_before(&mut self, slot: i64)
-        ensures { (s : ℤ) → (row_at self.new s ≡ row_at self.old s)
+        ensures left { (s : ℤ) → (row_at self.new s ≡ row_at self.old s)
             ⊎ ((row_at self.new s ≡ []) × IsTrue (int_lt s slot)) }
+        ensures none_before { starts_before (block_of slot) (all_blocks self.new) ≡ false }
     {
         let number = block_of(slot);
         if number <= self.dropped {

@@ -4,7 +4,7 @@ ghost use Rattle.rr_archive.specs.Row.{entry_at, with_entry};
 ghost use Rattle.rr_archive.specs.Changes.{Fits, entry_after};
 ghost use Rattle.rr_archive.specs.Stored.{ChangesStored, MakesRoom, PassesOver};
 ghost use Rattle.rr_packed.specs.Readings.{entries_of};
-ghost use Rattle.rr_packed.specs.Blocks.{items_in, has_room_in, stored_in, has_room_held, entries_in_all, IsRowSet};
+ghost use Rattle.rr_packed.specs.Blocks.{items_in, has_room_in, stored_in, has_room_held, entries_in_all, is_shared, IsRowSet};
 
 use crate::block::Block;
 use crate::row::Row;
@@ -61,7 +61,8 @@ fn changed_copy(
 
 /// A block for others to have too, and whether it is one: without memory for that it stays as it is.
 fn shared(alloc: Global, block: Block) -> (HeldBlock, bool)
-    ensures { stored_in result.0 ≡ items_in block }
+    ensures same { stored_in result.0 ≡ items_in block }
+    ensures shared { result.1 ≡ is_shared result.0 }
 {
     match Arc::new(alloc, block) {
         Ok(shared) => (HeldBlock::Shared(shared), true),
@@ -78,7 +79,9 @@ impl HeldBlock {
     }
 
     /// Whether others may have it too.
-    pub(crate) fn is_shared(&self) -> bool {
+    pub(crate) fn is_shared(&self) -> bool
+        ensures { result ≡ is_shared self.now }
+    {
         match self {
             HeldBlock::Own(_) => false,
             HeldBlock::Shared(_) => true,
@@ -168,7 +171,8 @@ impl HeldBlock {
     /// Makes a block of this archive alone ready to be shared, in no more memory than its lists need.
     /// Answers whether it did; it doesn't where there is no memory for it.
     pub(crate) fn finish(&mut self, alloc: Global) -> bool
-        ensures { stored_in self.new ≡ stored_in self.old }
+        ensures same { stored_in self.new ≡ stored_in self.old }
+        ensures shared { IsTrue result → IsTrue (is_shared self.new) }
     {
         match replace(self, HeldBlock::new(alloc)) {
             HeldBlock::Own(mut block) => {
@@ -187,7 +191,8 @@ impl HeldBlock {
     /// Shares the block of another archive in place of the own one, if both hold the same rows.
     /// Answers whether it did.
     pub(crate) fn share(&mut self, other: &HeldBlock) -> bool
-        ensures { stored_in self.new ≡ stored_in self.old }
+        ensures same { stored_in self.new ≡ stored_in self.old }
+        ensures shared { IsTrue result → IsTrue (is_shared self.new) }
     {
         let HeldBlock::Own(own) = self else {
             return false;
@@ -207,7 +212,8 @@ impl HeldBlock {
 
     /// The same rows: shared, or copied where the block is of this archive alone.
     pub(crate) fn copy(&self, alloc: Global) -> Result<HeldBlock, AllocError>
-        ensures { IfOk result (λ new. stored_in new ≡ stored_in self.now) }
+        ensures same { IfOk result (λ new. stored_in new ≡ stored_in self.now) }
+        ensures shared { IfOk result (λ new. is_shared new ≡ is_shared self.now) }
     {
         match self {
             HeldBlock::Own(block) => Ok(HeldBlock::Own(block.copy(alloc)?)),

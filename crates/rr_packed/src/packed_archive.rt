@@ -1,10 +1,11 @@
 //! An archive of packed rows.
-ghost use Rattle.std.specs.Prelude.{◌≤◌};
+ghost use Rattle.std.specs.Prelude.{◌≤◌, IsTrue, OnOk};
 ghost use Rattle.std.proofs.Props.{props};
 ghost use Rattle.rr_archive.specs.CellSlots.{cell_slot};
 ghost use Rattle.rr_archive.specs.Codes.{coded_rows};
 ghost use Rattle.rr_archive.specs.Stored.{CanTake, ChangesCell};
-ghost use Rattle.rr_packed.specs.PackedCells.{IsArchiveState, cells_in, is_ready_in};
+ghost use Rattle.rr_join.specs.Horizon.{is_above};
+ghost use Rattle.rr_packed.specs.PackedCells.{HasNonePast, IsArchiveState, cells_in, is_ready_in};
 
 use crate::blocks::Blocks;
 use rr_archive::change::Change;
@@ -54,10 +55,12 @@ impl PackedArchive {
     fn change(&mut self, slot: i64, origin: Origin, change: &Change) -> Result<(), AllocError>
         requires { CanTake (cells_in self.old.rows self.old.newest self.old.blocks)
             (cell_slot slot origin) change.now }
-        ensures { ChangesCell (cell_slot slot origin) change.now self.old.newest
+        ensures cells { ChangesCell (cell_slot slot origin) change.now self.old.newest
             (is_ready_in self.old.rows self.old.newest self.old.blocks (cell_slot slot origin))
             self.old.rows self.new.rows (cells_in self.old.rows self.old.newest self.old.blocks)
             (cells_in self.new.rows self.new.newest self.new.blocks) result }
+        ensures none_past { OnOk result (IsTrue (is_above self.old.rows self.old.newest slot)
+            → HasNonePast self.new.rows self.new.newest self.new.blocks) }
     {
         if !is_live(self.rows, self.newest, slot) {
             return Ok(());

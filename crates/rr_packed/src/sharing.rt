@@ -1,7 +1,7 @@
 //! Blocks that archives share.
-ghost use Rattle.std.specs.Prelude.{◌≡◌, map, IfOk};
+ghost use Rattle.std.specs.Prelude.{◌≡◌, map, IfOk, IsTrue};
 ghost use Rattle.std.specs.Option.{option_to_list};
-ghost use Rattle.rr_packed.specs.Blocks.{row_at, stored, stored_in};
+ghost use Rattle.rr_packed.specs.Blocks.{all_blocks, is_shared, row_at, stored, stored_in};
 
 use crate::blocks::Blocks;
 use crate::held_block::HeldBlock;
@@ -11,7 +11,8 @@ use std::collections::VecDeque;
 /// Makes a block of this archive alone ready to be shared; with another archive's blocks, takes the
 /// one of the same number in its place, if both hold the same rows. Answers whether it did.
 fn share_block(block: &mut HeldBlock, alloc: Global, number: i64, others: Option<&Blocks>) -> bool
-    ensures { stored_in block.new ≡ stored_in block.old }
+    ensures same { stored_in block.new ≡ stored_in block.old }
+    ensures shared { IsTrue result → IsTrue (is_shared block.new) }
 {
     match others {
         None => block.finish(alloc),
@@ -54,7 +55,9 @@ impl Blocks {
 
     /// The same rows, in blocks that are shared where they were.
     pub(crate) fn copy(&self, alloc: Global) -> Result<Blocks, AllocError>
-        ensures { IfOk result (λ new. row_at new ≡ row_at self.now) }
+        ensures rows { IfOk result (λ new. row_at new ≡ row_at self.now) }
+        ensures blocks { IfOk result (λ new. map stored (all_blocks new)
+            ≡ map stored (all_blocks self.now)) }
     {
         let mut older = VecDeque::with_capacity(alloc, self.older.len())?;
         for (number, block) in &self.older {

@@ -1,5 +1,5 @@
 -- Which of a key's archives keep a sample.
-use Rattle.std.proofs.Common.{◌≡◌, ℕ, ◌+◌, Bool, true, false, ◌||◌, List, [], ◌∷◌, map, length, refl, sym, ap, ◌∙◌, arith, None}
+use Rattle.std.proofs.Common.{◌≡◌, ℕ, zero, suc, ◌+◌, ◌-◌, ◌<◌, Bool, true, false, ◌||◌, List, [], ◌∷◌, map, length, refl, sym, ap, ◌∙◌, arith, None}
 use Rattle.std.specs.FinMap.{keys, entries, empty, len-entries, len-empty}
 use Rattle.std.specs.List.{list_any, range_with_len}
 use Rattle.std.proofs.lemmas.List.Folds.{list_any-append}
@@ -35,3 +35,20 @@ any_more f n a b so_far here =
     ∙ ap (λ r. list_any (λ k. k) before || r) (sym (or_false (f n)))
     ∙ sym (list_any-append (λ k. k) before (f n ∷ []))
     ∙ ap (list_any (λ k. k)) (sym (map-range_with_len_more f 0 n n at))
+
+-- one that passes it is among them, however many archives follow
+any_later : (f : ℕ → Bool) (n d : ℕ) → true ≡ list_any (λ k. k) (map f (range_with_len 0 n))
+    → true ≡ list_any (λ k. k) (map f (range_with_len 0 (n + d)))
+any_later f n zero found = let same : n ≡ n + 0 = omega arith in
+    found ∙ ap (λ m. list_any (λ k. k) (map f (range_with_len 0 m))) same
+any_later f n (suc d) found =
+    let same : n + d + 1 ≡ n + suc d = omega arith in
+    any_more f (n + d) true (f (n + d)) (any_later f n d found) refl
+    ∙ ap (λ m. list_any (λ k. k) (map f (range_with_len 0 m))) same
+
+pub any_upto : (f : ℕ → Bool) (n m : ℕ) → false ≡ list_any (λ k. k) (map f (range_with_len 0 n)) → true ≡ f n → n < m
+    → true ≡ list_any (λ k. k) (map f (range_with_len 0 m))
+any_upto f n m none here less =
+    let same : n + 1 + (m - (n + 1)) ≡ m = omega arith in
+    any_later f (n + 1) (m - (n + 1)) (any_more f n false true none here)
+    ∙ ap (λ k. list_any (λ k. k) (map f (range_with_len 0 k))) same

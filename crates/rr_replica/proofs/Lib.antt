@@ -1,5 +1,6 @@
 pub mod Keeping
 pub mod KeysLemmas
+pub mod KeysInOrder
 pub mod SeriesLemmas
 pub mod Each
 pub mod Shown

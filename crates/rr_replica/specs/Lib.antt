@@ -11,5 +11,6 @@ pub mod ReplicaWithRoom
 pub mod Calls
 pub mod Horizon
 pub mod Keys
+pub mod KeysLaw
 pub mod Writing
 pub mod Fault

@@ -5,6 +5,7 @@ ghost use Rattle.rr_archive.specs.CellSlots.{newest_of};
 ghost use Rattle.rr_cells.specs.Cells.{archive_cells};
 ghost use Rattle.rr_replica.specs.Horizon.{keeps, keeps_in};
 
+use crate::hint::Hint;
 use crate::replica::Replica;
 use rr_archive::Cells;
 use rr_archive::live_slots::is_live;
@@ -17,20 +18,29 @@ impl<A: Cells> Replica<A> {
     pub fn keeps(&self, key: &SeriesKey, time: i64) -> bool
         ensures { result ≡ keeps self.now.schema self.now.cells key.now time }
     {
-        let mut kept = false;
+        self.keeps_near(Hint::none(), key, time)
+    }
+
+    /// Whether a sample would be kept, as [`Replica::keeps`] says. If the hint is right, a comparison
+    /// of two keys takes the place of each look-up; no archive is looked at after one that keeps it.
+    pub fn keeps_near(&self, hint: Hint, key: &SeriesKey, time: i64) -> bool
+        ensures { result ≡ keeps self.now.schema self.now.cells key.now time }
+    {
         for i in 0..self.schema().archives().len() {
-            kept |= self.keeps_in(key, time, i as u8);
+            if self.keeps_in(hint, key, time, i as u8) {
+                return true;
+            }
         }
-        kept
+        false
     }
 
     /// Whether an archive would keep a sample of a key at a time.
-    fn keeps_in(&self, key: &SeriesKey, time: i64, archive: u8) -> bool
+    fn keeps_in(&self, hint: Hint, key: &SeriesKey, time: i64, archive: u8) -> bool
         requires { archive < length self.now.schema.archives }
         ensures { result ≡ keeps_in self.now.schema self.now.cells key.now time archive }
     {
         let schema = self.schema();
-        let newest = self.newest(key, archive);
+        let newest = self.newest(hint, key, archive);
         is_live(
             schema.archive(archive).rows,
             newest,
@@ -39,10 +49,10 @@ impl<A: Cells> Replica<A> {
     }
 
     /// The greatest slot of a cell in an archive of a key, if there is a cell.
-    fn newest(&self, key: &SeriesKey, archive: u8) -> Option<i64>
+    fn newest(&self, hint: Hint, key: &SeriesKey, archive: u8) -> Option<i64>
         ensures { result ≡ newest_of (keys (archive_cells self.now.cells key.now archive)) }
     {
-        match self.archive(key, archive) {
+        match self.archive_near(hint, key, archive) {
             Some(archive) => archive.newest(),
             None => None,
         }

@@ -1,4 +1,5 @@
 //! The laws of replicas, with no work to do: each function has an empty body.
+ghost use Rattle.rr_replica.specs.KeysLaw.{ListedAreTheFirst};
 ghost use Rattle.rr_replica.specs.Writing.{WritingGoesOn};
 
 pub use rr_cells::laws::cells::{
@@ -11,4 +12,10 @@ pub use rr_cells::laws::cells::{
 /// all.
 pub fn writing_goes_on()
     ensures { WritingGoesOn }
+{}
+
+/// The keys that `keys_after` lists are distinct and ascend. They are those that have a cell, from
+/// behind the key on, and one of these is missing only where as many as are wanted are before it.
+pub fn listed_keys_are_the_first()
+    ensures { ListedAreTheFirst }
 {}

@@ -280,7 +280,15 @@ impl<A: Cells> Replica<A> {
         ensures { MatchOption result (archive_cells self.now.cells key.now i ≡ fin.empty)
             (λ archive. A.cells archive.now ≡ archive_cells self.now.cells key.now i) }
     {
-        match self.series.get(key) {
+        self.archive_near(Hint::none(), key, i)
+    }
+
+    /// The archive of a key with a number, as [`Replica::archive`] gives it. The hint is tried first.
+    pub(crate) fn archive_near(&self, hint: Hint, key: &SeriesKey, i: u8) -> Option<&A>
+        ensures { MatchOption result (archive_cells self.now.cells key.now i ≡ fin.empty)
+            (λ archive. A.cells archive.now ≡ archive_cells self.now.cells key.now i) }
+    {
+        match self.series.get_near(hint, key) {
             Some(archives) => archives.get(i as usize),
             None => None,
         }

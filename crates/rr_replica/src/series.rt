@@ -92,7 +92,15 @@ impl<A: Drop> SeriesMap<A> {
         ensures { option_map (λ archives. archives.now) result
             ≡ archives_of (entries_of self.now) key.now }
     {
-        match self.find(key) {
+        self.get_near(Hint::none(), key)
+    }
+
+    /// The archives of a key, if it is known. The hint is tried first.
+    pub(crate) fn get_near(&self, hint: Hint, key: &SeriesKey) -> Option<&Vec<A>>
+        ensures { option_map (λ archives. archives.now) result
+            ≡ archives_of (entries_of self.now) key.now }
+    {
+        match self.find_near(hint, key) {
             Some(index) => self.archives.get(index),
             None => None,
         }

@@ -11,7 +11,10 @@ use std::time::{SystemTime, UNIX_EPOCH};
 pub struct SystemClock<S> {
     source: S,
     last: i64,
-    is_read: bool,
+    /// How many times it was renewed. The number stops at its greatest value.
+    renewals: u64,
+    /// How many times it had been renewed when it was read last, if it was.
+    read_at: Option<u64>,
 }
 
 impl<S: time::Clock> SystemClock<S> {
@@ -20,7 +23,8 @@ impl<S: time::Clock> SystemClock<S> {
         SystemClock {
             source,
             last: 0,
-            is_read: false,
+            renewals: 0,
+            read_at: None,
         }
     }
 }
@@ -30,16 +34,18 @@ impl<S: time::Clock> Clock for SystemClock<S> {
 
     ghost given = { λ _. None };
 
+    ghost renewals = { λ c. c.renewals };
+
     fn now(&mut self) -> i64 {
-        if !self.is_read {
+        if self.read_at != Some(self.renewals) {
             self.last = read(&self.source).unwrap_or(self.last);
-            self.is_read = true;
+            self.read_at = Some(self.renewals);
         }
         self.last
     }
 
     fn renew(&mut self) {
-        self.is_read = false;
+        self.renewals = self.renewals.saturating_add(1);
     }
 }
 

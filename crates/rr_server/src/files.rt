@@ -117,3 +117,11 @@ pub(crate) fn check_folder(
         }
     }
 }
+
+/// Tells that the snapshot in a file, if one is there, will be replaced, though the node doesn't
+/// begin with it.
+pub(crate) fn tell_replaced(rt: &(impl Files + Eprint), file: &str) {
+    if fs::metadata(rt, file).is_ok_and(|found| found.is_file()) {
+        tell(rt, file, "will be replaced: no --load");
+    }
+}

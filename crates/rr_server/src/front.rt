@@ -11,8 +11,8 @@
 //! [`WebSeats`] are the seats of such a node: those of fetches and pulls, a [`Door`] for lines, and
 //! a [`WebSeat`] for each request that is answered beside others. The body of a write is a visit of
 //! the keeper like a connection for lines, so that rounds and what they mean stay as they are; of
-//! the two kinds the keeper takes one in turn. A fetch is answered as at the fetch port
-//! (`answer_fetch` of `rr_node`). What stands in requests and answers is in `rr_web`.
+//! the two kinds the keeper takes one in turn. What stands in requests and replies is in `rr_web`,
+//! which answers a fetch by the reader of its seat.
 //!
 //! Each connection has one request, so that a sender which stays connected holds no seat. Of
 //! sockets nothing is known.

@@ -36,5 +36,5 @@ mod web;
 pub use program::run;
 pub use seats::TcpSeats;
 pub use shelf::FileShelf;
-pub use signals::{HaltFlag, Patience, SaveNews, Saved};
+pub use signals::{HaltFlag, Patience, SaveNews, Saved, StartBarrier};
 pub use tcp::{Calling, Listening};

@@ -1,6 +1,6 @@
 //! A node at work: a keeper and its readers, over TCP.
 
-use crate::files::{check_folder, first_replica, read_config};
+use crate::files::{check_folder, first_replica, read_config, tell_replaced};
 use crate::greeting::greeting;
 use crate::listeners::Listeners;
 use crate::plain::{Plain, work};
@@ -54,10 +54,15 @@ where
 
     /// Begins with the snapshot in a file, or with nothing, listens, and serves until all rounds
     /// and visits are done. If there is no folder for the snapshots that are to be saved, it
-    /// doesn't begin.
+    /// doesn't begin; if one is there that it doesn't begin with, that is told.
     pub(crate) fn serve(&self, origin: Origin, load: Option<&str>) -> Result<Ending, Ending> {
         match self.save {
-            Some(file) => check_folder(self.rt, file)?,
+            Some(file) => {
+                check_folder(self.rt, file)?;
+                if load.is_none() {
+                    tell_replaced(self.rt, file);
+                }
+            }
             None => self.check_unsaved()?,
         }
         let replica = first_replica(self.rt, &self.config.schema, origin, load)?;

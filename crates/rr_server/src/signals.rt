@@ -18,4 +18,5 @@ pub(crate) use flag::Flag;
 pub use halt::HaltFlag;
 pub use patience::Patience;
 pub use saves::{SaveNews, Saved};
-pub(crate) use start::{StartBarrier, pause};
+pub use start::StartBarrier;
+pub(crate) use start::pause;

@@ -1,5 +1,5 @@
 -- Cells of a stream, one after the other.
-use Rattle.std.proofs.Common.{◌≡◌, ℕ, ◌+◌, ◌-◌, ◌<◌, ◌≤◌, true, false, List, [], ◌∷◌, ◌++◌, Option, None, Some, IfSome, Result, Ok, Err, refl, ap, subst, ◌∙◌, arith, inl, inr}
+use Rattle.std.proofs.Common.{◌≡◌, ℕ, suc, ◌+◌, ◌-◌, ◌<◌, ◌≤◌, true, false, List, [], ◌∷◌, ◌++◌, Option, None, Some, IfSome, Result, Ok, Err, refl, sym, ap, subst, ◌∙◌, append-nil, arith, inl, inr}
 use Rattle.rr_schema.specs.Schema.{Layout}
 use Rattle.rr_page.specs.declared.fault.PageFault.{PageFault}
 use Rattle.rr_page.specs.declared.version.Version.{Version}
@@ -28,11 +28,12 @@ page_err (Err f) fault e = (f, refl, cc)
 
 -- ---- cells one after the other
 
--- what was read so far, and what is still read, make the whole
+-- what was read so far, and what is still read, make the whole, however many more are read
 abbrev pub IsSoFar : Version → Layout → List NamedCell → ℕ → ℕ → Option (List ℕ) → Option (List ℕ) → Type 0
 IsSoFar v s front count i old now =
     IfSome old (λ all. (rest : List ℕ) × (now ≡ Some rest)
-    × (with_front front (cells_at v s (last_name front) (count - i) rest) ≡ cells_at v s None count all))
+    × (with_front front (cells_at v s (last_name front) (count - i) rest) ≡ cells_at v s None count all)
+    × ((n : ℕ) → with_front front (cells_at v s (last_name front) n rest) ≡ cells_at v s None (i + n) all))
 
 pub nothing_yet : (v : Version) (s : Layout) (count : ℕ) (old : Option (List ℕ)) → IsSoFar v s [] count 0 old old
 nothing_yet v s count None = tt
@@ -41,6 +42,7 @@ nothing_yet v s count (Some all) = (
   refl,
   none (cells_at v s None (count - 0) all)
       ∙ ap (λ (n : ℕ). cells_at v s None n all) zero_less,
+  λ n. none (cells_at v s None n all) ∙ ap (λ (m : ℕ). cells_at v s None m all) (zero_more n),
 )
   where
     none : (r : Result (List NamedCell × List ℕ) PageFault) → with_front [] r ≡ r
@@ -49,6 +51,9 @@ nothing_yet v s count (Some all) = (
 
     zero_less : count - 0 ≡ count
     zero_less = omega arith
+
+    zero_more : (n : ℕ) → n ≡ 0 + n
+    zero_more n = omega arith
 
 -- a cell was read, and what follows it is left
 abbrev pub Read : Version → Layout → NamedCell → Option (List ℕ) → Option (List ℕ) → Type 0
@@ -78,6 +83,16 @@ module _ (v : Version) (s : Layout) (front : List NamedCell) (count i : ℕ) (lt
         next.1,
         goes_on v s front count i so_far.0 (cells_at v s None count all) so_far.2 e next.0 lt
             (page_ok (cell_at v s so_far.0) (e, next.0) next.2) rising,
+        λ n.
+            let before : i + suc n - i ≡ suc n = omega arith in
+            let after : i + suc n - (i + 1) ≡ n = omega arith in
+            let all_of : i + suc n ≡ i + 1 + n = omega arith in
+            ap (λ (m : ℕ). with_front (front ++ e ∷ []) (cells_at v s (last_name (front ++ e ∷ [])) m next.0))
+            (sym after)
+            ∙ goes_on v s front (i + suc n) i so_far.0 (cells_at v s None (i + suc n) all)
+            (ap (λ (m : ℕ). with_front front (cells_at v s (last_name front) m so_far.0)) before ∙ so_far.3 (suc n)) e
+            next.0 (omega arith) (page_ok (cell_at v s so_far.0) (e, next.0) next.2) rising
+            ∙ ap (λ (m : ℕ). cells_at v s None m all) all_of,
       )
 
   pub ends_stream : (old now : Option (List ℕ)) (fault : LoadFault) → IsSoFar v s front count i old now
@@ -109,6 +124,16 @@ module _ (v : Version) (s : Layout) (front : List NamedCell) (count i : ℕ) (lt
   passed_made made old now new fault so_far (inl e) = inl e
   passed_made made old now new fault so_far (inr (inl e)) = inr (inl e)
   passed_made made old now new fault so_far (inr (inr e)) = inr (inr (ends_stream old now fault so_far e))
+
+-- so far the cells are good
+pub first_read : (v : Version) (s : Layout) (front : List NamedCell) (count i : ℕ) (all : List ℕ)
+    (now : Option (List ℕ)) (so_far : IsSoFar v s front count i (Some all) now)
+    → cells_at v s None i all ≡ Ok (front, so_far.0)
+unfolding cells_at
+first_read v s front count i all now so_far =
+    let none : i + 0 ≡ i = omega arith in
+    ap (λ (n : ℕ). cells_at v s None n all) (sym none) ∙ sym (so_far.3 0)
+    ∙ ap (λ (l : List NamedCell). Ok (l, so_far.0)) (append-nil front)
 
 pub done_stream : (v : Version) (s : Layout) (front : List NamedCell) (count i : ℕ) (old now : Option (List ℕ))
     → count ≤ i → IsSoFar v s front count i old now

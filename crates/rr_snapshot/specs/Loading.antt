@@ -1,5 +1,5 @@
 -- What is made of a snapshot that is read.
-use Rattle.std.specs.Prelude.{◌≡◌, ◌⊎◌, ℕ, Bool, false, ◌||◌, ◌==◌, List, map, Option, Some, IfSome, Result, Ok, Err, OnOk}
+use Rattle.std.specs.Prelude.{◌≡◌, ◌⊎◌, ◌<◌, ℕ, Bool, false, ◌||◌, ◌==◌, List, map, Option, None, Some, IfSome, Result, Ok, Err, OnOk}
 use Rattle.std.specs.FinMap.{empty}
 use Rattle.std.specs.List.{list_any}
 use Rattle.sha2.specs.declared.Sha256.{Sha256}
@@ -10,16 +10,15 @@ use Rattle.rr_io.specs.Stream.{IsReadOut}
 use Rattle.rr_schema.specs.Schema.{Layout}
 use Rattle.rr_schema.specs.Added.{older}
 use Rattle.rr_schema.specs.declared.added.Addition.{Addition}
-use Rattle.rr_cells.specs.CellNames.{CellName}
-use Rattle.rr_page.specs.declared.version.Version.{Version}
 use Rattle.rr_page.specs.PageReading.{cells_at}
+use Rattle.rr_page.specs.Reading.{cell_at}
 use Rattle.rr_cells.specs.CellBounds.{NamedCell}
 use Rattle.rr_cells.specs.ReplicaState.{ReplicaState}
 use Rattle.rr_cells.specs.Joins.{join_cells}
 use Rattle.rr_snapshot.specs.declared.fault.LoadFault.{LoadFault}
 use Rattle.rr_snapshot.specs.declared.fault.LoadFault.TheVariants.{ReadFailed, OriginUsed, Memory}
 use Rattle.rr_snapshot.specs.declared.heading.Head.{Head}
-use Rattle.rr_snapshot.specs.SnapshotReading.{head_at, cells_after, snapshot_at}
+use Rattle.rr_snapshot.specs.SnapshotReading.{head_at, snapshot_at}
 use Rattle.rr_snapshot.specs.Stream.{Digests, LoadsFrom}
 use Rattle.rr_cells.specs.Raising.{raised_cell}
 
@@ -52,31 +51,28 @@ abbrev pub GivesIfRead : {A B : Type 0} → (A → B) → Result A LoadFault →
 GivesIfRead view (Ok x) answer = answer ≡ Ok (view x)
 GivesIfRead view (Err fault) answer = (fault ≡ ReadFailed) ⊎ (fault ≡ Memory) ⊎ (answer ≡ Err fault)
 
--- some cells are left, and after them these bytes
-abbrev pub HasBehind : Layout → List ℕ → List ℕ → Type 0
-HasBehind s left behind =
-    (v : Version) × (before : Option CellName) × (n : ℕ) × (es : List NamedCell)
-    × (cells_at v s before n left ≡ Ok (es, behind))
+-- of the cells after a head one was read, and those before it are good and in order; what follows it is left
+pub record StopsAtCell (s : Layout) (head : Head) (bytes : List ℕ) (new : Option (List ℕ)) : Type 0 where
+  pub done : ℕ
+  pub before : List NamedCell
+  pub rest : List ℕ
+  pub good : cells_at head.version (older s head.addition) None done bytes ≡ Ok (before, rest)
+  pub not_all : done < head.count
+  pub cell : NamedCell
+  pub left : List ℕ
+  pub is_read : cell_at head.version (older s head.addition) rest ≡ Ok (cell, left)
+  pub stops : new ≡ Some left
 
--- where the cells after a head are good, what follows them is left
-abbrev pub StopsAmong : Layout → Head → Option (List ℕ) → Option (List ℕ) → Type 0
-StopsAmong s head old new =
-    IfSome old (λ bytes. (es : List NamedCell) (behind : List ℕ) → cells_after s head bytes ≡ Ok (es, behind)
-    → (left : List ℕ) × (new ≡ Some left) × HasBehind (older s head.addition) left behind)
+-- nothing after a head was read, or one of the cells after it was the last
+abbrev pub StopsAmong : Layout → Head → List ℕ → Option (List ℕ) → Type 0
+StopsAmong s head bytes new = (new ≡ Some bytes) ⊎ StopsAtCell s head bytes new
 
--- the head of the snapshot at the front and what follows its cells, where they are good
-unfoldable pub behind_cells : Layout → List ℕ → Result (Head × List ℕ) LoadFault
-behind_cells s bytes = do
-  head ← head_at s bytes
-  cells ← cells_after s head.0 head.1
-  Ok (head.0, cells.1)
-
--- nothing was read, or where the cells of the snapshot are good, what follows them is left
+-- nothing was read; or the head is good, and nothing after it was read, or one of its cells was the last
 abbrev pub StopsBeforeDigest : Layout → Option (List ℕ) → Option (List ℕ) → Type 0
 StopsBeforeDigest s old new =
     (new ≡ old)
-    ⊎ IfSome old (λ bytes. (head : Head) (behind : List ℕ) → behind_cells s bytes ≡ Ok (head, behind)
-    → (left : List ℕ) × (new ≡ Some left) × HasBehind (older s head.addition) left behind)
+    ⊎ IfSome old (λ bytes. (head : Head) × (after : List ℕ) × (head_at s bytes ≡ Ok (head, after))
+    × StopsAmong s head after new)
 
 -- what a replica holds after these cells, which are of before an addition, were joined into it, in order, and whether
 -- one is of its own origin: where none is, its next number stays
@@ -87,14 +83,17 @@ pub record HasJoined (a : Addition) (old new : ReplicaState) (own : Bool) (es : 
   pub any : own ≡ is_among old.origin es
   pub next : own ≡ false → new.next ≡ old.next
 
--- what a call did that loads the cells after a head: it digested what it took, and memory ran out only among good ones
+-- what a call did that loads the cells after a head: it digested what it took, and memory ran out only before they were
+-- read, or at one that is good, as all before it are
 pub record LoadsCells {R X : Type 0} (s : Layout) (head : Head) (remaining : R → Option (List ℕ)) (old new : Counted R)
     (before after : Sha256) (result : Result X LoadFault) : Type 0 where
   pub digest : OnOk result (Digests (remaining (inner_of old)) (remaining (inner_of new)) before after)
   pub stream : LoadsFrom remaining old new result
-  pub memory : result ≡ Err Memory → StopsAmong s head (remaining (inner_of old)) (remaining (inner_of new))
+  pub memory : result ≡ Err Memory → IfSome (remaining (inner_of old))
+      (λ bytes. StopsAmong s head bytes (remaining (inner_of new)))
 
--- what a call did that loads all of the input: it read it out, and memory ran out only before the digest
+-- what a call did that loads all of the input: it read it out, and memory ran out only before the digest, where all
+-- that it had read is good
 pub record LoadsAll {R X : Type 0} (s : Layout) (remaining : R → Option (List ℕ)) (old new : Counted R)
     (result : Result X LoadFault) : Type 0 where
   pub end : OnOk result (IsReadOut remaining new)

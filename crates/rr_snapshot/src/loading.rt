@@ -163,8 +163,9 @@ fn load_into<A: Cells, R: Read>(
 /// are those of the reader's schema, or of it without one archive; `BadOrigin`; for each cell those
 /// of [`read_cell`](rr_page::read_cell), and then `OutOfOrder` where its name is not greater than
 /// the one before; `BadDigest`; `TrailingBytes`; and last `OriginUsed` where the new origin is that
-/// of the snapshot or of one of its cells, those past the horizon too. `Memory` comes before the
-/// digest is read. A refused load gives no replica, and a front of the input has been read. The
+/// of the snapshot or of one of its cells, those past the horizon too. `Memory` comes before
+/// anything is read, after a good head, or at a good cell that follows good ones, and never after
+/// the cells. A refused load gives no replica, and a front of the input has been read. The
 /// cost is that of joining the cells, and linear in the bytes.
 pub fn load<A: Cells, R: Read>(
     alloc: Global,

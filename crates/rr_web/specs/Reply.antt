@@ -1,7 +1,7 @@
 -- What is answered to a request.
-use Rattle.std.specs.Prelude.{ℕ, Bool, true, false, ◌==◌, nat_eq, List, [], ◌∷◌, ◌++◌, codes, Option, None, Some, option_map, if◌then◌else◌}
+use Rattle.std.specs.Prelude.{ℕ, Bool, true, false, ◌==◌, List, [], ◌∷◌, ◌++◌, codes, Option, None, Some, option_map, if◌then◌else◌}
 use Rattle.std.specs.Borrow.{Bor}
-use Rattle.std.specs.List.{ends_with, flat_map}
+use Rattle.std.specs.List.{flat_map}
 use Rattle.rr_text.specs.declared.bytes.TheConstants.{LINE_FEED}
 use Rattle.rr_web.specs.declared.reply.Reply.{Reply}
 use Rattle.rr_web.specs.declared.reply.Status.{Status}
@@ -41,6 +41,6 @@ write_reply_of is_unsaved refusals None =
     reply_of Failed Json (codes "{\"error\":\"the node ran out of memory\"}\n")
 write_reply_of true refusals (Some report) =
     reply_of Failed Json (codes "{\"error\":\"the lines are taken, but not saved\"}\n")
-write_reply_of false refusals (Some report) =
-    if ends_with nat_eq report (codes " refused 0") then reply_of NoContent Json []
-    else reply_of BadRequest Json (partial_text refusals report)
+write_reply_of false [] (Some report) = reply_of NoContent Json []
+write_reply_of false (byte ∷ refusals) (Some report) =
+    reply_of BadRequest Json (partial_text (byte ∷ refusals) report)

@@ -1,8 +1,7 @@
-//! What is answered to a fetch, by what the fetch port answers.
+//! The rows of a fetch as replies, and refusals of queries.
 
-ghost use Rattle.std.specs.Prelude.{◌≡◌, [], IfOk, codes, unwrap_or};
-ghost use Rattle.rr_web.specs.Answers.{fetch_reply_of, form_in, form_of, is_refusal, refusal_text};
-ghost use Rattle.rr_web.specs.Query.{parameter_of};
+ghost use Rattle.std.specs.Prelude.{◌≡◌, IfOk};
+ghost use Rattle.rr_web.specs.Answers.{form_in, form_of, records_reply, refusal_text};
 ghost use Rattle.rr_web.specs.Reply.{reply_of, reply_view};
 
 use crate::query::parameter;
@@ -43,51 +42,25 @@ pub fn form_in(alloc: Global, query: &[u8]) -> Result<Option<Form>, AllocError>
     }
 }
 
-/// Whether what a fetch was answered is a refusal: each record has a comma, and no refusal has one.
-fn is_refusal(text: &[u8]) -> bool
-    ensures { result ≡ is_refusal text.now }
-{
-    text.starts_with(b"error ") && !text.contains(&b',')
-}
-
-/// The key that a query names; an empty one if it names none.
-fn key_in(alloc: Global, query: &[u8]) -> Result<Vec<u8>, AllocError>
-    ensures { IfOk result (λ key. key.items ≡ unwrap_or (parameter_of query.now (codes "key")) []) }
-{
-    match parameter(alloc, query, b"key")? {
-        Some(key) => Ok(key),
-        None => Ok(Vec::new(alloc)),
-    }
-}
-
-/// What is answered in this form to the fetch of a query, which the fetch port answers so. A
-/// refusal is the same in each form. The cost is linear in both texts.
-pub fn fetch_reply(
+/// The records of a fetch of this key, in a form. The cost is linear in them.
+pub(crate) fn records_reply(
     alloc: Global,
     form: Form,
-    query: &[u8],
-    text: Vec<u8>,
+    key: &[u8],
+    records: Vec<u8>,
 ) -> Result<Reply, AllocError>
-    ensures { IfOk result (λ reply. reply_view reply
-        ≡ fetch_reply_of form query.now text.items) }
+    ensures { IfOk result (λ reply. reply_view reply ≡ records_reply form key.now records.items) }
 {
-    if is_refusal(&text) {
-        return Ok(Reply {
-            status: Status::BadRequest,
-            kind: Kind::Plain,
-            text,
-        });
-    }
     match form {
         Form::Csv => Ok(Reply {
             status: Status::Ok,
             kind: Kind::Csv,
-            text,
+            text: records,
         }),
         Form::Json => Ok(Reply {
             status: Status::Ok,
             kind: Kind::Json,
-            text: fetch_json(alloc, &key_in(alloc, query)?, &text)?,
+            text: fetch_json(alloc, key, &records)?,
         }),
     }
 }

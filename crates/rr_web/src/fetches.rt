@@ -1,30 +1,81 @@
-//! The line that a fetch over HTTP is at the fetch port.
+//! The fetch that a query asks for, and its reply.
 
 ghost use Rattle.std.specs.Prelude.{◌≡◌, IfOk, codes, option_map};
 ghost use Rattle.std.specs.Fmt.{signed_decimal};
+ghost use Rattle.rr_text.specs.Results.{GivesUnless};
 ghost use Rattle.rr_text.specs.Text.{number_at};
-ghost use Rattle.rr_web.specs.FetchLine.{back_to, end_by, fetch_line_of, start_by};
-ghost use Rattle.rr_web.specs.FetchLine.{with_range, with_word, words_of_function};
+ghost use Rattle.rr_fetch.specs.Requests.{request_view, IsFetchable};
+ghost use Rattle.rr_fetch.specs.Words.{parts};
+ghost use Rattle.rr_desk.specs.ReaderState.{AnswersSeen, cells_seen};
+ghost use Rattle.rr_fetch.specs.Answers.{cells_text};
+ghost use Rattle.rr_web.specs.Answers.{records_reply};
+ghost use Rattle.rr_web.specs.Fetches.{asked_in, back_to, end_by, reply_by, request_in, start_by, words_in};
+ghost use Rattle.rr_web.specs.Fetches.{together, words_view};
 ghost use Rattle.rr_web.specs.Query.{parameter_of};
+ghost use Rattle.rr_web.specs.Reply.{reply_view};
 
+use crate::answers::{Form, form_in, records_reply, refusal_reply};
 use crate::query::parameter;
+use crate::reply::Reply;
 use itoa::Buffer;
-use rr_text::bytes::SPACE;
+use rr_archive::Cells;
+use rr_desk::Reader;
+use rr_fetch::{Request, RequestFault, RequestWords, read_request};
+use rr_schema::Schema;
 use rr_text::text::number;
 use std::alloc::{AllocError, Global};
 
-/// A line with a word more, as long as none was missing.
-fn with_word(line: Option<Vec<u8>>, word: Option<Vec<u8>>) -> Result<Option<Vec<u8>>, AllocError>
-    ensures { IfOk result (λ longer. option_map (λ text. text.items) longer
-        ≡ with_word (option_map (λ text. text.items) line) (option_map (λ text. text.items) word)) }
+/// The words of a request, each the value of a parameter.
+#[derive(Drop)]
+struct Words {
+    function: Vec<u8>,
+    resolution: Vec<u8>,
+    start: Vec<u8>,
+    end: Vec<u8>,
+    key: Vec<u8>,
+}
+
+impl Words {
+    /// The words, as they are read.
+    fn lend(&self) -> RequestWords<'_>
+        ensures { parts result ≡ words_view self.now }
+    {
+        RequestWords::new(
+            &self.function,
+            &self.resolution,
+            &self.start,
+            &self.end,
+            &self.key,
+        )
+    }
+}
+
+/// The words of a request, if none is missing.
+fn together(
+    function: Option<Vec<u8>>,
+    resolution: Option<Vec<u8>>,
+    start: Option<Vec<u8>>,
+    end: Option<Vec<u8>>,
+    key: Option<Vec<u8>>,
+) -> Option<Words>
+    ensures { option_map words_view result
+        ≡ together (option_map (λ text. text.items) function)
+        (option_map (λ text. text.items) resolution) (option_map (λ text. text.items) start)
+        (option_map (λ text. text.items) end) (option_map (λ text. text.items) key) }
 {
-    let (Some(line), Some(word)) = (line, word) else {
-        return Ok(None);
+    let (Some(function), Some(resolution)) = (function, resolution) else {
+        return None;
     };
-    let mut line = line;
-    line.push(SPACE)?;
-    line.extend_from_slice(&word)?;
-    Ok(Some(line))
+    let (Some(start), Some(end), Some(key)) = (start, end, key) else {
+        return None;
+    };
+    Some(Words {
+        function,
+        resolution,
+        start,
+        end,
+        key,
+    })
 }
 
 /// A second in decimal.
@@ -69,50 +120,75 @@ fn end(alloc: Global, query: &[u8], now: i64) -> Result<Option<Vec<u8>>, AllocEr
     }
 }
 
-/// The words CF RESOLUTION behind the name of a fetch.
-fn words_of_function(alloc: Global, query: &[u8]) -> Result<Option<Vec<u8>>, AllocError>
-    ensures { IfOk result (λ line. option_map (λ text. text.items) line
-        ≡ words_of_function query.now) }
+/// The words of the request that a query writes by its parameters `cf`, `resolution`, `start`,
+/// `end` and `key`, if none is missing. With `last` the start and the end are those of as many
+/// seconds before the second `now`, whatever `start` and `end` say.
+fn words_in(alloc: Global, query: &[u8], now: i64) -> Result<Option<Words>, AllocError>
+    ensures { IfOk result (λ words. option_map words_view words ≡ words_in query.now now) }
 {
-    let line = Some(Vec::from_slice(alloc, b"fetch")?);
-    let line = with_word(line, parameter(alloc, query, b"cf")?)?;
-    with_word(line, parameter(alloc, query, b"resolution")?)
+    let function = parameter(alloc, query, b"cf")?;
+    let resolution = parameter(alloc, query, b"resolution")?;
+    let start = start(alloc, query, now)?;
+    let end = end(alloc, query, now)?;
+    let key = parameter(alloc, query, b"key")?;
+    Ok(together(function, resolution, start, end, key))
 }
 
-/// The words START END behind a line.
-fn with_range(
+/// The request of a query.
+fn request_in(
     alloc: Global,
-    line: Option<Vec<u8>>,
     query: &[u8],
     now: i64,
-) -> Result<Option<Vec<u8>>, AllocError>
-    ensures { IfOk result (λ longer. option_map (λ text. text.items) longer
-        ≡ with_range (option_map (λ text. text.items) line) query.now now) }
+    schema: &Schema,
+) -> Result<Request, RequestFault>
+    ensures value { GivesUnless RequestFault.Memory request_view result
+        (request_in schema.now query.now now) }
+    ensures fetchable { IfOk result (λ q. IsFetchable schema.now (request_view q)) }
 {
-    let line = with_word(line, start(alloc, query, now)?)?;
-    with_word(line, end(alloc, query, now)?)
+    match words_in(alloc, query, now) {
+        Ok(Some(words)) => read_request(alloc, &words.lend(), schema),
+        Ok(None) => Err(RequestFault::BadCommand),
+        Err(_) => Err(RequestFault::Memory),
+    }
 }
 
-/// The words of a fetch behind its name, if none is missing.
-fn words(alloc: Global, query: &[u8], now: i64) -> Result<Option<Vec<u8>>, AllocError>
-    ensures { IfOk result (λ line. option_map (λ text. text.items) line
-        ≡ with_word (with_range (words_of_function query.now) query.now now)
-        (parameter_of query.now (codes "key"))) }
+/// The rows of a request, in a form.
+fn rows_reply<A: Cells>(
+    alloc: Global,
+    form: Form,
+    request: &Request,
+    reader: &mut Reader<A>,
+) -> Result<Reply, AllocError>
+    requires { IsFetchable reader.old.schema (request_view request.now) }
+    ensures { AnswersSeen reader.old reader.new (IfOk result (λ reply. reply_view reply
+        ≡ records_reply form request.now.key
+        (cells_text reader.new.schema (cells_seen reader.new) (request_view request.now)))) }
 {
-    let line = words_of_function(alloc, query)?;
-    let line = with_range(alloc, line, query, now)?;
-    with_word(line, parameter(alloc, query, b"key")?)
+    let records = reader.fetch(alloc, request)?;
+    records_reply(alloc, form, request.key.text(), records)
 }
 
-/// The line `fetch CF RESOLUTION START END KEY` that a query asks for by its parameters `cf`,
-/// `resolution`, `start`, `end` and `key`. With `last` the rows are those of as many seconds before
-/// the second `now`, whatever `start` and `end` say. Where a parameter is missing, the line is its
-/// first word alone. The cost is linear in the query.
-pub fn fetch_line(alloc: Global, query: &[u8], now: i64) -> Result<Vec<u8>, AllocError>
-    ensures { IfOk result (λ line. line.items ≡ fetch_line_of query.now now) }
+/// The reply to the fetch that a query asks for at the second `now`: the rows of its request, in
+/// the form that it names, after the operations that the reader has seen when the call returns; or
+/// a refusal. The first of these is due: `BadFormat`, for a form that there isn't; `BadCommand`,
+/// for a parameter that is missing; and those of [`read_request`]. The cost is that of
+/// [`Reader::fetch`], and linear in the query.
+pub fn fetch_reply<A: Cells>(
+    alloc: Global,
+    query: &[u8],
+    now: i64,
+    reader: &mut Reader<A>,
+) -> Result<Reply, AllocError>
+    ensures { AnswersSeen reader.old reader.new (IfOk result (λ reply. reply_view reply
+        ≡ reply_by reader.new.schema (cells_seen reader.new)
+        (asked_in reader.old.schema query.now now))) }
 {
-    match words(alloc, query, now)? {
-        Some(line) => Ok(line),
-        None => Vec::from_slice(alloc, b"fetch"),
+    let Some(form) = form_in(alloc, query)? else {
+        return refusal_reply(alloc, "BadFormat");
+    };
+    match request_in(alloc, query, now, reader.schema()) {
+        Ok(request) => rows_reply(alloc, form, &request, reader),
+        Err(RequestFault::Memory) => Err(AllocError),
+        Err(fault) => refusal_reply(alloc, fault.name()),
     }
 }

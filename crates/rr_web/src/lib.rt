@@ -1,13 +1,11 @@
-//! What is asked of a node over HTTP, and what it answers, as texts: there is no socket here, and
-//! no store.
+//! What is asked of a node over HTTP, and its replies: there is no socket here.
 //!
 //! ```text
 //! method and path ── asked_by ──> Ask
 //! query ── parameter ──> a value
-//! query ── fetch_line ──> the line `fetch CF RESOLUTION START END KEY` of the fetch port
-//! query ── form_in, count_in ──> a form of answers, a number of keys
-//! what lines were answered ── write_reply ──> Reply: a status, a kind of text, and the text
-//! what a fetch was answered ── fetch_reply ──> Reply, as CSV or as JSON
+//! query ── fetch_reply, by a reader ──> Reply: a status, a kind of text, and the text, CSV or JSON
+//! query ── count_in ──> a number of keys
+//! refusals and report of lines ── write_reply ──> Reply
 //! keys of series ── push_keys ──> the lines of those that begin with a prefix
 //! page_reply ──> a page, its script and its style
 //! ```
@@ -32,9 +30,9 @@ mod style;
 mod texts;
 mod writes;
 
-pub use answers::{Form, fetch_reply, form_in, refusal_reply};
+pub use answers::refusal_reply;
 pub use ask::{Ask, asked_by};
-pub use fetches::fetch_line;
+pub use fetches::fetch_reply;
 pub use precision::is_precision;
 pub use query::parameter;
 pub use reply::{Kind, Reply, Status};

@@ -1,19 +1,26 @@
 //! The precision that a write names.
 
 ghost use Rattle.std.specs.Prelude.{◌≡◌};
-ghost use Rattle.rr_web.specs.Precision.{is_precision};
+ghost use Rattle.rr_web.specs.Precision.{is_precision, short_name};
 
 use rr_line::Precision;
+
+/// The name of a precision in InfluxDB's first version.
+fn short_name(precision: Precision) -> &'static [u8]
+    ensures { result.now ≡ short_name precision }
+{
+    match precision {
+        Precision::Ns => b"n",
+        Precision::Us => b"u",
+        Precision::Ms => b"ms",
+        Precision::S => b"s",
+    }
+}
 
 /// Whether a text names this precision, as writes over HTTP name one: `n` or `ns`, `u` or `us`,
 /// `ms`, `s`.
 pub fn is_precision(text: &[u8], precision: Precision) -> bool
     ensures { result ≡ is_precision text.now precision }
 {
-    match precision {
-        Precision::Ns => text == b"ns".as_slice() || text == b"n".as_slice(),
-        Precision::Us => text == b"us".as_slice() || text == b"u".as_slice(),
-        Precision::Ms => text == b"ms".as_slice(),
-        Precision::S => text == b"s".as_slice(),
-    }
+    text == precision.name().as_bytes() || text == short_name(precision)
 }

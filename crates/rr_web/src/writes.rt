@@ -49,7 +49,8 @@ fn failed(alloc: Global, text: &[u8]) -> Result<Reply, AllocError>
 
 /// What is answered to a write whose lines were answered by these refusals and this report, which
 /// lacks its line feed; a report is missing where memory ran out before the end. If the write was
-/// to be answered once it is saved, and the save failed, it `is_unsaved`.
+/// to be answered once it is saved, and the save failed, it `is_unsaved`. The write is passed, by
+/// 204, exactly if its lines are saved as asked and none was refused.
 pub fn write_reply(
     alloc: Global,
     refusals: &[u8],
@@ -68,7 +69,7 @@ pub fn write_reply(
             b"{\"error\":\"the lines are taken, but not saved\"}\n",
         );
     }
-    if report.ends_with(b" refused 0") {
+    if refusals.is_empty() {
         return Ok(Reply {
             status: Status::NoContent,
             kind: Kind::Json,

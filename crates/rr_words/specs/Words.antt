@@ -7,7 +7,8 @@ use Rattle.clap.specs.Words.{fault_of, subcommand_of}
 use Rattle.rr_text.specs.declared.limits.TheConstants.{MAX_ORIGIN}
 use Rattle.rr_text.specs.Text.{integer_at, number_at}
 use Rattle.rr_line.specs.declared.precision.Precision.{Precision}
-use Rattle.rr_line.specs.declared.precision.Precision.TheVariants.{Ns, Us, Ms, S}
+use Rattle.rr_line.specs.declared.precision.Precision.TheVariants.{Ns}
+use Rattle.rr_line.specs.Precision.{precision_named}
 use Rattle.rr_words.specs.declared.order.Order.{Order}
 use Rattle.rr_words.specs.declared.order.Order.TheVariants as order
 use Rattle.rr_command_line.specs.Program.{program_app}
@@ -27,11 +28,7 @@ asked_by (order.Serve config origin load save) =
 -- ns, us, ms or s; nanoseconds if none is written
 abbrev pub precision_at : Option Text → Option Precision
 precision_at None = Some Ns
-precision_at (Some text) =
-    if bytes_eq text (codes "ns") then Some Ns
-    else (if bytes_eq text (codes "us") then Some Us
-    else (if bytes_eq text (codes "ms") then Some Ms
-    else (if bytes_eq text (codes "s") then Some S else None)))
+precision_at (Some text) = precision_named text
 
 -- an integer in i64; 0 if none is written
 abbrev pub moment_at : Option Text → Option ℤ

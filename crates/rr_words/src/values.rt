@@ -31,15 +31,9 @@ pub(crate) fn owned(alloc: Global, text: Option<&str>) -> Result<Option<String>,
 pub(crate) fn precision_of(text: Option<&str>) -> Option<Precision>
     ensures { result ≡ precision_at (option_map (λ s. s.now) text.entry) }
 {
-    let Some(text) = text else {
-        return Some(Precision::Ns);
-    };
     match text {
-        "ns" => Some(Precision::Ns),
-        "us" => Some(Precision::Us),
-        "ms" => Some(Precision::Ms),
-        "s" => Some(Precision::S),
-        _ => None,
+        Some(text) => Precision::named(text),
+        None => Some(Precision::Ns),
     }
 }
 

@@ -14,12 +14,11 @@ use rr_desk::Reader;
 use rr_host::Clock;
 use rr_key::KeyFault;
 use rr_line::Precision;
-use rr_node::{OpenGate, answer_fetch};
 use rr_packed::PackedArchive;
 use rr_turns::{Slip, Told};
 use rr_web::{
-    Ask, Kind, Reply, Status, asked_by, count_in, fetch_reply, form_in, is_precision, page_reply,
-    parameter, refusal_reply, write_reply,
+    Ask, Kind, Reply, Status, asked_by, count_in, fetch_reply, is_precision, page_reply, parameter,
+    refusal_reply, write_reply,
 };
 use std::alloc::{AllocError, Global};
 use std::sync::Wait;
@@ -77,16 +76,6 @@ fn query_of(request: &Request<Bytes>) -> &[u8] {
     }
 }
 
-/// The name of a precision.
-fn name_of(precision: Precision) -> &'static str {
-    match precision {
-        Precision::Ns => "ns",
-        Precision::Us => "us",
-        Precision::Ms => "ms",
-        Precision::S => "s",
-    }
-}
-
 /// Whether the body of a request has a coding, of which none is undone here.
 fn has_coding(request: &Request<Bytes>) -> bool {
     match request.headers().get(header::CONTENT_ENCODING) {
@@ -109,7 +98,7 @@ fn names_other_precision(
 
 /// The refusal of a write that names another precision than the one of the node.
 fn refuse_precision(alloc: Global, precision: Precision) -> Result<Reply, AllocError> {
-    let own = name_of(precision);
+    let own = precision.name();
     let text = format!(in alloc; "{{\"error\":\"the precision of this node is {own}\"}}\n")?;
     json(alloc, Status::BadRequest, text.as_str())
 }
@@ -174,15 +163,13 @@ impl<T: Wait + time::Clock> Clerk<'_, T> {
 
     /// The answer to a fetch.
     fn fetch(&mut self, request: &Request<Bytes>) -> Result<Reply, AllocError> {
-        let alloc = self.desk.alloc;
-        let query = query_of(request);
-        let Some(form) = form_in(alloc, query)? else {
-            return refusal_reply(alloc, "BadFormat");
-        };
         let now = self.next_second();
-        let mut gate = OpenGate::new();
-        let text = answer_fetch(alloc, query, now, &mut self.desk.reader, &mut gate)?;
-        fetch_reply(alloc, form, query, text)
+        fetch_reply(
+            self.desk.alloc,
+            query_of(request),
+            now,
+            &mut self.desk.reader,
+        )
     }
 
     /// The keys of series, a line each.

@@ -155,6 +155,8 @@ impl<R: Wait + Clock> Visits for Queued<'_, R> {
         Visit::Failed
     }
 
+    fn schema_differs(&mut self) {}
+
     fn take_back(&mut self, input: Counted<Input>, output: Counted<Output>)
         ensures { HasCalled None None
             (TookBack (stream_of (λ _. None) (λ _. None) input output) ∷ []) }

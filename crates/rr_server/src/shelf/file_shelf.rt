@@ -80,7 +80,7 @@ impl<R: Files + Eprint> Shelf for FileShelf<'_, R> {
     ghost use Rattle.std.specs.Prelude.{[], ◌∷◌, None};
     ghost use Rattle.rr_host.specs.Calls.{Grows};
     ghost use Rattle.rr_host.specs.Streams.{output_of};
-    ghost use Rattle.rr_node.specs.Shelf.{put_back};
+    ghost use Rattle.rr_node.specs.Shelf.{counts, put_back};
 
     type Output = SaveFile<R::File>;
 
@@ -104,7 +104,15 @@ impl<R: Files + Eprint> Shelf for FileShelf<'_, R> {
         let _printed = eprintln!(self.rt; "peer {number}: {name}");
     }
 
-    fn pulls_ended(&mut self, _cells: usize) {}
+    fn past_horizon(&mut self, _samples: u64) {}
+
+    fn counts_cells(&mut self) -> bool
+        ensures { Grows None None (counts result ∷ []) }
+    {
+        false
+    }
+
+    fn pulls_ended(&mut self, _cells: Option<usize>) {}
 
     fn open(&mut self) -> Opening<SaveFile<R::File>> {
         let Some(file) = &self.file else {

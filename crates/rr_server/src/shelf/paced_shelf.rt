@@ -8,17 +8,23 @@ use rr_node::{NodeFault, Opening, Report, Shelf};
 use rr_snapshot::SaveFault;
 use std::rt::Files;
 use std::sync::Wait;
-use std::time::Clock;
+use std::time::{Clock, Instant};
+
+/// How often cells are counted for what reads the counts of the node at any time, in seconds.
+const COUNT_EVERY: u64 = 10;
 
 /// A shelf that wants a snapshot at most once in a turn of so many seconds, or when a flag was
 /// raised, and then hands it to another shelf. After each turn its log says what the rounds did. In
 /// each round it prints on standard error `session: SchemaDiffers`, if another flag was raised.
-/// Nothing is known of its calls.
+/// Cells are counted where a log says how many there are, which other rounds don't wait for. Nothing
+/// is known of its calls.
 #[derive(Drop)]
 pub struct PacedShelf<'a, R, S> {
     rt: &'a R,
     shelf: S,
     pace: Pace,
+    /// When cells are counted for the counts of the node.
+    counting: Pace,
     wish: Flag,
     alarm: Flag,
     log: RoundLog<'a, R>,
@@ -40,6 +46,7 @@ impl<'a, R: Files + Eprint + Clock + Wait, S> PacedShelf<'a, R, S> {
             rt,
             shelf,
             pace: Pace::new(every),
+            counting: Pace::new(Some(COUNT_EVERY)),
             wish,
             alarm,
             log,
@@ -50,7 +57,22 @@ impl<'a, R: Files + Eprint + Clock + Wait, S> PacedShelf<'a, R, S> {
     fn is_wanted(&self) -> bool {
         // The flag is taken down by a snapshot that is due anyway.
         let is_asked = self.wish.take();
-        is_asked || self.pace.is_due(self.rt)
+        is_asked || self.pace.is_due(self.now())
+    }
+
+    /// Whether a turn ends with this round, at whose end its log says how many cells there are.
+    fn is_turn_over(&self) -> bool {
+        self.log.says() && (self.wish.is_raised() || self.pace.is_due(self.now()))
+    }
+
+    /// Whether the counts of the node, if they are read, need a new number of cells.
+    fn is_count_old(&self) -> bool {
+        self.log.posts() && self.counting.is_due(self.now())
+    }
+
+    /// What the clock that never goes back says, if it can be read.
+    fn now(&self) -> Option<Instant> {
+        Instant::now(self.rt).ok()
     }
 }
 
@@ -58,7 +80,7 @@ impl<R: Files + Eprint + Clock + Wait, S: Shelf> Shelf for PacedShelf<'_, R, S> 
     ghost use Rattle.std.specs.Prelude.{[], ◌∷◌, None};
     ghost use Rattle.rr_host.specs.Calls.{Grows};
     ghost use Rattle.rr_host.specs.Streams.{output_of};
-    ghost use Rattle.rr_node.specs.Shelf.{put_back};
+    ghost use Rattle.rr_node.specs.Shelf.{counts, put_back};
 
     type Output = S::Output;
 
@@ -81,7 +103,18 @@ impl<R: Files + Eprint + Clock + Wait, S: Shelf> Shelf for PacedShelf<'_, R, S> 
         self.shelf.peer_failed(number, fault);
     }
 
-    fn pulls_ended(&mut self, cells: usize) {
+    fn counts_cells(&mut self) -> bool
+        ensures { Grows None None (counts result ∷ []) }
+    {
+        let is_asked = self.shelf.counts_cells();
+        let counts = is_asked || self.is_turn_over() || self.is_count_old();
+        if counts {
+            self.counting.done(self.now());
+        }
+        counts
+    }
+
+    fn pulls_ended(&mut self, cells: Option<usize>) {
         self.log.pulls_are_over(cells);
         self.shelf.pulls_ended(cells);
     }
@@ -96,7 +129,7 @@ impl<R: Files + Eprint + Clock + Wait, S: Shelf> Shelf for PacedShelf<'_, R, S> 
             self.log.post();
             return Opening::Unwanted;
         }
-        self.pace.done(self.rt);
+        self.pace.done(self.now());
         match self.shelf.open() {
             Opening::Writer(output) => Opening::Writer(output),
             // No writer will be handed back, so the turn is over.
@@ -111,7 +144,7 @@ impl<R: Files + Eprint + Clock + Wait, S: Shelf> Shelf for PacedShelf<'_, R, S> 
         ensures { Grows None None (put_back (output_of S.Output.contents output) whole ∷ []) }
     {
         self.shelf.take_back(output, whole);
-        self.pace.done(self.rt);
+        self.pace.done(self.now());
         self.log.save_is_over();
         self.log.say();
     }

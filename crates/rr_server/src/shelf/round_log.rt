@@ -37,7 +37,7 @@ pub struct RoundLog<'a, R> {
     /// How many samples no archive kept, up to the last line and in all.
     past_before: u64,
     past: u64,
-    /// How many cells there are after the pulls of this round.
+    /// How many cells there were when they were counted last, after the pulls of a round.
     cells: usize,
     /// When the pulls or the save of this round began.
     began: Option<Instant>,
@@ -98,9 +98,11 @@ impl<'a, R: Files + Eprint + Clock + Wait> RoundLog<'a, R> {
         self.past = samples;
     }
 
-    /// The pulls are over, with so many cells; the save begins.
-    pub(crate) fn pulls_are_over(&mut self, cells: usize) {
-        self.cells = cells;
+    /// The pulls are over, with so many cells if they were counted; the save begins.
+    pub(crate) fn pulls_are_over(&mut self, cells: Option<usize>) {
+        if let Some(cells) = cells {
+            self.cells = cells;
+        }
         self.pulls = self.pulls.saturating_add(self.elapsed());
         self.save = Duration::ZERO;
         self.began = Instant::now(self.rt).ok();
@@ -109,6 +111,16 @@ impl<'a, R: Files + Eprint + Clock + Wait> RoundLog<'a, R> {
     /// The save is over.
     pub(crate) fn save_is_over(&mut self) {
         self.save = self.elapsed();
+    }
+
+    /// Whether it says at the end of a turn what the rounds did.
+    pub(crate) fn says(&self) -> bool {
+        self.prints || self.file.is_some()
+    }
+
+    /// Whether it puts the counts on a board.
+    pub(crate) fn posts(&self) -> bool {
+        self.board.is_some()
     }
 
     /// How long it is since something began.

@@ -35,6 +35,11 @@ impl Flag {
         self.is_raised.store(true, Ordering::SeqCst);
     }
 
+    /// Whether it is raised.
+    pub fn is_raised(&self) -> bool {
+        self.is_raised.load(Ordering::SeqCst)
+    }
+
     /// Takes it down, and says whether it was raised.
     pub fn take(&self) -> bool {
         self.is_raised.swap(false, Ordering::SeqCst)

@@ -35,7 +35,7 @@ impl Patience {
     }
 
     /// The same, but no visit is given before all threads of the node have begun. If one of them
-    /// hasn't within ten seconds, as when there was no memory for it, the flag is raised.
+    /// hasn't within half a second, as when there was no memory for it, the flag is raised.
     pub fn after_start(self, start: StartBarrier) -> Patience {
         Patience {
             start: Some(start),

@@ -10,8 +10,9 @@ use std::sync::atomic::{AtomicUsize, Ordering};
 /// millisecond.
 const LOOK: i64 = 1_000_000;
 
-/// How often is looked: for ten seconds.
-const LOOKS: u32 = 10_000;
+/// How often is looked: for half a second. On a machine that is busy a look takes longer, and so does
+/// the start of a thread.
+const LOOKS: u32 = 500;
 
 /// Sleeps for so many nanoseconds, fewer than a second's. A signal may end the sleep early.
 pub(crate) fn pause(nanoseconds: i64) {
@@ -51,8 +52,8 @@ impl StartBarrier {
         })
     }
 
-    /// Says that one more thread has begun, waits until all have, for ten seconds at most, and
-    /// answers whether they have.
+    /// Says that one more thread has begun, waits until all have, for half a second, and answers
+    /// whether they have.
     pub fn wait(&self) -> bool {
         self.begun.fetch_add(1, Ordering::SeqCst);
         for _ in 0..LOOKS {

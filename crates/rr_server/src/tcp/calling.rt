@@ -58,6 +58,10 @@ impl<R: Net<Stream = TcpStream>> Dial for Calling<'_, R> {
 
     ghost calls = { λ d. None };
 
+    fn is_due(&mut self, _address: &str) -> bool {
+        true
+    }
+
     fn open(&mut self, address: &str) -> Option<(Counted<Half>, Counted<Half>)> {
         let stream = self.connect(address)?;
         let (input, output) = halves(self.alloc, stream, self.idle, &self.halt)?;

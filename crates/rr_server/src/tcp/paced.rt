@@ -3,7 +3,7 @@
 use rr_host::{Dial, Pace};
 use rr_io::Counted;
 use std::alloc::{AllocError, Global};
-use std::time::Clock;
+use std::time::{Clock, Instant};
 
 /// A peer, and the pace of its calls.
 #[derive(Drop)]
@@ -70,10 +70,11 @@ impl<'a, R: Clock, D> PacedDial<'a, R, D> {
         let Some(peer) = self.peers.get_mut(place) else {
             return;
         };
+        let now = Instant::now(self.rt).ok();
         if has_failed {
-            peer.pace.failed(self.rt);
+            peer.pace.failed(now);
         } else {
-            peer.pace.done(self.rt);
+            peer.pace.done(now);
         }
     }
 }
@@ -94,7 +95,7 @@ impl<R: Clock, D: Dial> Dial for PacedDial<'_, R, D> {
             return true;
         };
         match self.peers.get(place) {
-            Some(peer) => peer.pace.is_due(self.rt),
+            Some(peer) => peer.pace.is_due(Instant::now(self.rt).ok()),
             None => true,
         }
     }

@@ -82,6 +82,8 @@ impl Visits for Cut {
         )
     }
 
+    fn schema_differs(&mut self) {}
+
     fn take_back(&mut self, input: Counted<Failing<Trickle>>, output: Counted<Room>)
         ensures { HasCalled None None (TookBack (stream_of (λ _. None) (λ _. None) input output) ∷
             []) }

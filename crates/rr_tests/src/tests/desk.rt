@@ -2,6 +2,7 @@
 
 ghost use Rattle.std.specs.Prelude.{◌≡◌};
 
+mod beside;
 mod opening;
 mod prefixes;
 mod threads;

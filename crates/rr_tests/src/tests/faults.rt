@@ -26,7 +26,9 @@ fn told(calls: &[ShelfNote]) -> Option<Told> {
         match call {
             ShelfNote::PeerFailed(number, fault) => peer = Some((*number, *fault)),
             ShelfNote::SaveFailed(fault) => save = Some(*fault),
-            ShelfNote::LinesTaken(None) | ShelfNote::PullsEnded(0) | ShelfNote::Opened(_) => {}
+            ShelfNote::LinesTaken(None) | ShelfNote::PastHorizon(0) => {}
+            ShelfNote::CountsCells(true) | ShelfNote::PullsEnded(Some(0)) => {}
+            ShelfNote::Opened(_) => {}
             _ => return None,
         }
     }
@@ -75,7 +77,7 @@ fn gone_on<R: Wait>(
     alloc: Global,
     openings: &[PreparedOpening],
 ) -> Option<(bool, Told, usize)> {
-    let mut shelf = PreparedShelf::new(alloc, openings, 6).ok()?;
+    let mut shelf = PreparedShelf::new(alloc, openings, 8).ok()?;
     let came = kept(rt, alloc, &[None], &mut shelf)?;
     let calls = shelf.calls()?;
     Some((came, told(calls)?, calls.len()))
@@ -93,8 +95,8 @@ fn a_round_goes_on_after_faults(rt: HostRuntime) -> Result<(), Fail> {
     let unopened = gone_on(&rt, rt.alloc(), &[PreparedOpening::Failed]);
     let unwanted = gone_on(&rt, rt.alloc(), &[]);
     let fault = Some(SaveFault::WriteFailed);
-    assert!(rt; unopened == Some((true, (PEER, fault), 6)));
-    assert!(rt; unwanted == Some((true, (PEER, None), 5)));
+    assert!(rt; unopened == Some((true, (PEER, fault), 8)));
+    assert!(rt; unwanted == Some((true, (PEER, None), 7)));
     assert!(rt; is_over(&rt, rt.alloc()) == Some(true));
     Ok(())
 }

@@ -1,11 +1,11 @@
 //! A node without end that ends where memory runs out on one of its threads, whatever the others
-//! wait for. A keeper that runs out of memory halts it, which raises the same flag.
+//! wait for, and where one of them doesn't begin. A keeper that runs out of memory halts it, which raises the same flag.
 
 use rr_desk::{Keeper, Reader, open};
 use rr_fakes::replicas::minutes;
 use rr_node::{Config, Halt, Moments, OpenGate, Seat, serve_node};
 use rr_packed::PackedArchive;
-use rr_server::{Calling, FileShelf, HaltFlag, Listening, Patience, TcpSeats};
+use rr_server::{Calling, FileShelf, HaltFlag, Listening, Patience, StartBarrier, TcpSeats};
 use std::alloc::Global;
 use std::io::Write;
 use std::net::{Net, SocketAddr, TcpListener, TcpStream};
@@ -13,6 +13,7 @@ use std::rt::Files;
 use std::sync::Wait;
 use std::test::Fail;
 use std::thread::Threads;
+use std::time::Instant;
 
 /// The configuration of a node without end with two readers. Its connections may be silent without
 /// end.
@@ -163,5 +164,17 @@ fn a_halt_raises_the_flag(rt: HostRuntime) -> Result<(), Fail> {
     let shared = flag.share()?;
     flag.halt();
     assert!(rt; shared.is_raised());
+    Ok(())
+}
+
+// Of the node's two threads one never begins.
+#[test]
+fn a_node_whose_threads_do_not_begin_is_over(rt: HostRuntime) -> Result<(), Fail> {
+    let start = StartBarrier::new(rt.alloc(), 2)?;
+    let mut patience = Patience::new(HaltFlag::new(rt.alloc())?).after_start(start);
+    let began = Instant::now(&rt)?;
+    let has_started = patience.has_started();
+    let is_soon = began.elapsed(&rt)?.as_secs() < 5;
+    assert!(rt; (has_started, patience.is_over(), is_soon) == (false, true, true));
     Ok(())
 }

@@ -134,6 +134,7 @@ rr serve far.toml --origin 1 --load cut.snapshot | | 2 | | rr: cut.snapshot: | l
 rr serve far.toml --origin 3 --load held.snapshot | | 2 | | rr: held.snapshot: | load: OriginUsed
 rr serve far.toml --origin 1 --load held.snapshot | | 3 | | rr: 127.0.0.1:2: | rr: bad address
 rr serve far.toml --origin 1 | | 3 | | rr: 127.0.0.1:2: | rr: bad address
+rr serve far.toml --origin 1 --save held.snapshot | | 3 | | rr: held.snapshot: will be replaced: no --load | rr: bad address
 rr serve far.toml --origin 1 --save no/folder | | 3 | | rr: no: No such file | rr: write failed
 rr serve none.toml --origin 1 | | 3 | | rr: 127.0.0.1:3: | rr: bad address";
 

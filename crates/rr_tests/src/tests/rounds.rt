@@ -69,18 +69,19 @@ fn is_loaded(alloc: Global, config: &Config, bytes: &[u8]) -> Option<bool> {
 }
 
 /// The peer that failed and its fault, if a round's shelf was told of one alone, and else of a
-/// report, of one cell after the pulls and of a whole snapshot.
+/// report, of no sample that is lost, of one cell after the pulls and of a whole snapshot.
 fn told(calls: &[ShelfNote]) -> Option<(usize, NodeFault)> {
     let mut failed = None;
     for call in calls {
         match call {
             ShelfNote::PeerFailed(number, fault) => failed = Some((*number, *fault)),
-            ShelfNote::LinesTaken(Some(_)) | ShelfNote::PullsEnded(1) => {}
+            ShelfNote::LinesTaken(Some(_)) | ShelfNote::PastHorizon(0) => {}
+            ShelfNote::CountsCells(true) | ShelfNote::PullsEnded(Some(1)) => {}
             ShelfNote::Opened(PreparedOpening::Writer) | ShelfNote::TookBack(_, true) => {}
             _ => return None,
         }
     }
-    if calls.len() == 5 { failed } else { None }
+    if calls.len() == 7 { failed } else { None }
 }
 
 /// What a node did: how it ended, which peer failed, whether the right frames were sent to the
@@ -128,8 +129,8 @@ fn kept<R: Wait + Threads + Sync>(
             sends: Some(REPLY.as_slice()),
         },
     ];
-    let mut dial = PreparedDial::new(alloc, &peers, 3).ok()?;
-    let mut shelf = PreparedShelf::new(alloc, &[PreparedOpening::Writer], 5).ok()?;
+    let mut dial = PreparedDial::new(alloc, &peers, 5).ok()?;
+    let mut shelf = PreparedShelf::new(alloc, &[PreparedOpening::Writer], 7).ok()?;
     let mut seats = NoSeats { suffices };
     let mut clock = Moments::new(Vec::new(alloc));
     let served = serve_node(

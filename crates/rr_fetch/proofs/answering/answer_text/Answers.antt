@@ -18,7 +18,7 @@ pub loop-row-init : goal.loop-row-init
 loop-row-init g c =
     let h = c.args.replica.now in
     let q = request_view c.args.request.now in
-    c.in_ok-text.ensures.items ∙ sym (answer_none h.schema (value_of_cells h.schema h.cells q) q)
+    c.in_ok-text.ensures.empty ∙ sym (answer_none h.schema (value_of_cells h.schema h.cells q) q)
 
 pub value_at-requires-clause-row : goal.value_at-requires-clause-row
 value_at-requires-clause-row g c = λ rows are.
@@ -46,7 +46,7 @@ loop-row-preserved g c =
     c.schema-schema.ensures.value
     ∙ ap (λ slot. consolidation_of h.schema q.archive q.function (row_at h.cells q.key q.archive slot)) at in
     let back = to_z-of_z {w = w64} {z = c.start_of-start.result} (search rules) in
-    let front : c.deref.result.now ≡ field_text q.key ++ comma ∷ [] = search rules in
+    let front : c.deref-in-loop-row.result.now ≡ field_text q.key ++ comma ∷ [] = search rules in
     let pushed = rw back at c.in_ok-push_row.ensures q.key front in
     rw (answer_more h.schema value_of q row, ← start, ← value)
     (pushed ∙ ap (λ (text : List ℕ). text ++ record_text q.key

@@ -1,4 +1,4 @@
-use Rattle.std.proofs.Common.{rules, ◌++◌, ◌∷◌, [], refl, sym, subst, ◌∙◌, inr, arith}
+use Rattle.std.proofs.Common.{rules, ◌++◌, ◌∷◌, [], length, refl, sym, ap, subst, ◌∙◌, inr, arith}
 use Rattle.std.specs.Io.KnownBytes.{Appends}
 use Rattle.std.proofs.KnownBytes.{Appends-kept, Appends-nil, Appends-trans}
 use Rattle.std.proofs.lemmas.Result.{err_from_is_err_and}
@@ -23,9 +23,10 @@ loop-frame-init g c =
 pub returns-in_err-frame-clause-sent : goal.returns-in_err-frame-clause-sent
 returns-in_err-frame-clause-sent g c = record {
   whole = search rules;
+  few = search rules;
   front =
       let so_far = c.loop-frame.invariant in
-      frames_before _ _ _ so_far.before _ so_far.replies.all_are so_far.written;
+      frames_before _ _ _ _ so_far.before _ so_far.replies.all_are so_far.replies.few so_far.written;
   flushed = search rules;
   failures_never_fall = search rules;
   failed =
@@ -49,12 +50,13 @@ returns-in_err-frame-clause-refused g c =
 pub returns-in_err-write_all-clause-sent : goal.returns-in_err-write_all-clause-sent
 returns-in_err-write_all-clause-sent g c = record {
   whole = search rules;
+  few = search rules;
   front =
       let so_far = c.loop-frame.invariant in
       let frame = c.in-Some.frame.items in
       let one = one_replied (reply_left c.args.giver.now.stage) c.args.giver.now.limit c.loop-frame.giver
       c.next_frame.new.self so_far.before frame so_far.replies (rw c.in-Some.is at c.in_ok-frame.ensures.sent.given) in
-      frames_front _ _ _ _ so_far.before one.left frame one.all_are so_far.written
+      frames_front _ _ _ _ _ so_far.before one.left frame one.all_are one.few so_far.written
       (rw c.deref.ensures.value at c.in_err-write_all.ensures.front);
   flushed = search rules;
   failures_never_fall = search rules;
@@ -87,9 +89,10 @@ loop-frame-preserved g c =
 pub returns-in_err-flush-clause-sent : goal.returns-in_err-flush-clause-sent
 returns-in_err-flush-clause-sent g c = record {
   whole = search rules;
+  few = search rules;
   front =
       let so_far = c.loop-frame.invariant in
-      prefix_kept _ _ _ _ (frames_before _ _ _ so_far.before _ so_far.replies.all_are so_far.written)
+      prefix_kept _ _ _ _ (frames_before _ _ _ _ so_far.before _ so_far.replies.all_are so_far.replies.few so_far.written)
       c.flush.ensures.bytes;
   flushed = search rules;
   failures_never_fall = search rules;
@@ -103,9 +106,14 @@ returns-clause-sent g c = record {
       let all = all_replied (reply_left c.args.giver.now.stage) c.args.giver.now.limit c.loop-frame.giver
       c.next_frame.new.self so_far.before so_far.replies (rw c.in_default.is at c.in_ok-frame.ensures.sent.given) in
       Appends-kept _ _ _ _ (frames_whole _ _ _ so_far.before all so_far.written) c.flush.ensures.bytes;
+  few =
+      let so_far = c.loop-frame.invariant in
+      let all = all_replied (reply_left c.args.giver.now.stage) c.args.giver.now.limit c.loop-frame.giver
+      c.next_frame.new.self so_far.before so_far.replies (rw c.in_default.is at c.in_ok-frame.ensures.sent.given) in
+      omega (arith, so_far.replies.few, ap length all);
   front =
       let so_far = c.loop-frame.invariant in
-      prefix_kept _ _ _ _ (frames_before _ _ _ so_far.before _ so_far.replies.all_are so_far.written)
+      prefix_kept _ _ _ _ (frames_before _ _ _ _ so_far.before _ so_far.replies.all_are so_far.replies.few so_far.written)
       c.flush.ensures.bytes;
   flushed = search rules;
   failures_never_fall = search rules;

@@ -9,6 +9,7 @@ pub returns : goal.returns
 returns g c = record {
   session = record {
     sent = search rules;
+    few = search rules;
     front = search rules;
     flushed = search rules;
     pulled = search rules;

@@ -1,4 +1,4 @@
-use Rattle.std.proofs.Common.{rules, ◌++◌, ◌∷◌, [], sym, subst, ◌∙◌, arith}
+use Rattle.std.proofs.Common.{rules, ◌++◌, ◌∷◌, [], length, sym, ap, subst, ◌∙◌, arith}
 use Rattle.std.specs.Io.KnownBytes.{Appends}
 use Rattle.std.proofs.KnownBytes.{Appends-kept, Appends-nil, Appends-trans}
 use Rattle.std.proofs.lemmas.Result.{err_from_is_err_and}
@@ -22,9 +22,10 @@ loop-frame-init g c =
 pub returns-in_err-frame-clause-sent : goal.returns-in_err-frame-clause-sent
 returns-in_err-frame-clause-sent g c = record {
   whole = search rules;
+  few = search rules;
   front =
       let so_far = c.loop-frame.invariant in
-      frames_before _ _ _ so_far.before _ so_far.sends.all so_far.written;
+      frames_before _ _ _ _ so_far.before _ so_far.sends.all so_far.sends.few so_far.written;
   flushed = search rules;
   failures_never_fall = search rules;
   failed =
@@ -48,6 +49,7 @@ returns-in_err-frame-clause-refused g c =
 pub returns-in_err-write_all-clause-sent : goal.returns-in_err-write_all-clause-sent
 returns-in_err-write_all-clause-sent g c = record {
   whole = search rules;
+  few = search rules;
   front =
       let so_far = c.loop-frame.invariant in
       let m = g.T.Target.cells c.args.target.now in
@@ -55,7 +57,7 @@ returns-in_err-write_all-clause-sent g c = record {
       let frame = c.in-Some.frame.items in
       let one = one_sent m s c.args.puller.now.limit c.loop-frame.puller c.next_frame.new.self so_far.before frame
       so_far.sends (rw c.in-Some.is at c.in_ok-frame.ensures.given) in
-      frames_front _ _ _ _ so_far.before one.left frame one.all so_far.written
+      frames_front _ _ _ _ _ so_far.before one.left frame one.all one.few so_far.written
       (rw c.deref.ensures.value at c.in_err-write_all.ensures.front);
   flushed = search rules;
   failures_never_fall = search rules;
@@ -90,9 +92,10 @@ loop-frame-preserved g c =
 pub returns-in_err-flush-clause-sent : goal.returns-in_err-flush-clause-sent
 returns-in_err-flush-clause-sent g c = record {
   whole = search rules;
+  few = search rules;
   front =
       let so_far = c.loop-frame.invariant in
-      prefix_kept _ _ _ _ (frames_before _ _ _ so_far.before _ so_far.sends.all so_far.written) c.flush.ensures.bytes;
+      prefix_kept _ _ _ _ (frames_before _ _ _ _ so_far.before _ so_far.sends.all so_far.sends.few so_far.written) c.flush.ensures.bytes;
   flushed = search rules;
   failures_never_fall = search rules;
   failed = search rules;
@@ -108,9 +111,17 @@ returns-clause-sent g c = record {
       so_far.sends
       (rw c.in_default.is at c.in_ok-frame.ensures.given) in
       Appends-kept _ _ _ _ (frames_whole _ _ _ so_far.before all.0 so_far.written) c.flush.ensures.bytes;
+  few =
+      let so_far = c.loop-frame.invariant in
+      let m = g.T.Target.cells c.args.target.now in
+      let s = g.T.Target.layout c.args.target.now in
+      let all = all_sent m s c.args.puller.now.limit c.loop-frame.puller c.next_frame.new.self so_far.before
+      so_far.sends
+      (rw c.in_default.is at c.in_ok-frame.ensures.given) in
+      omega (arith, so_far.sends.few, ap length all.0);
   front =
       let so_far = c.loop-frame.invariant in
-      prefix_kept _ _ _ _ (frames_before _ _ _ so_far.before _ so_far.sends.all so_far.written) c.flush.ensures.bytes;
+      prefix_kept _ _ _ _ (frames_before _ _ _ _ so_far.before _ so_far.sends.all so_far.sends.few so_far.written) c.flush.ensures.bytes;
   flushed = search rules;
   failures_never_fall = search rules;
   failed = search rules;

@@ -11,8 +11,8 @@ use Rattle.rr_node.specs.Lines.{Verdict, keeper_with, keeper_with_some}
 use Rattle.rr_node.proofs.VerdictLemmas.{verdict_put_of, verdict_spent_of}
 use Rattle.rr_node.proofs.answer.write_point.Goals as goal
 
-pub returns-in-Ok : goal.returns-in-Ok
-returns-in-Ok g c = record {
+pub returns-in-Ok-clause-taken : goal.returns-in-Ok-clause-taken
+returns-in-Ok-clause-taken g c = record {
   taken =
       let p = point_view c.args.point.now in
       let k = c.args.keeper.now in
@@ -24,7 +24,7 @@ returns-in-Ok g c = record {
       same (record { is_ahead = rw back at c.write.ensures.ahead; lacks = rw back at c.write.ensures.spent })
       (λ e. cc) (λ e. cc) in
       let Is : Verdict → Type 0 = λ v. (new ≡ keeper_with k v) × IsAnswer v (says.Put c.in-Ok.count) in
-      (now, c.now-now.ensures, subst Is (sym verdict) (rw back at c.in-Ok.ensures.put, c.in-Ok.ensures.count ∙ sym same));
+      (now, c.now-now.ensures.given, subst Is (sym verdict) (rw back at c.in-Ok.ensures.put, c.in-Ok.ensures.count ∙ sym same));
   count_fits = omega (
     arith,
     c.in-Ok.ensures.count,
@@ -33,8 +33,8 @@ returns-in-Ok g c = record {
   );
 }
 
-pub returns-in-Err-Memory : goal.returns-in-Err-Memory
-returns-in-Err-Memory g c = record {
+pub returns-in-Err-Memory-clause-taken : goal.returns-in-Err-Memory-clause-taken
+returns-in-Err-Memory-clause-taken g c = record {
   taken =
       let p = point_view c.args.point.now in
       let k = c.args.keeper.now in
@@ -48,12 +48,12 @@ returns-in-Err-Memory g c = record {
       same (record { is_ahead = rw back at c.write.ensures.ahead; lacks = rw back at c.write.ensures.spent })
       (λ e. cc) (λ e. cc) in
       let Is : Verdict → Type 0 = λ v. (count : ℕ) × (new ≡ keeper_with_some k v count) in
-      (now, c.now-now.ensures, subst Is (sym verdict) (put, rw (back, is) at c.write.ensures.refused));
+      (now, c.now-now.ensures.given, subst Is (sym verdict) (put, rw (back, is) at c.write.ensures.refused));
   count_fits = search rules;
 }
 
-pub returns-in-Err-NumbersSpent : goal.returns-in-Err-NumbersSpent
-returns-in-Err-NumbersSpent g c = record {
+pub returns-in-Err-NumbersSpent-clause-taken : goal.returns-in-Err-NumbersSpent-clause-taken
+returns-in-Err-NumbersSpent-clause-taken g c = record {
   taken =
       let p = point_view c.args.point.now in
       let k = c.args.keeper.now in
@@ -68,6 +68,6 @@ returns-in-Err-NumbersSpent g c = record {
         lacks =
             rw back at c.write.ensures.spent;
       }) is in
-      (now, c.now-now.ensures, rw verdict (rw (back, is) at c.write.ensures.refused, refl));
+      (now, c.now-now.ensures.given, rw verdict (rw (back, is) at c.write.ensures.refused, refl));
   count_fits = search rules;
 }

@@ -8,8 +8,8 @@ use Rattle.rr_desk.specs.Points.{keyed_value}
 use Rattle.rr_node.proofs.KnownLemmas.{takes_put, takes_first, takes_spent, takes_ahead}
 use Rattle.rr_node.proofs.answer.write_samples.Goals as goal
 
-pub returns-in-Err-Memory : goal.returns-in-Err-Memory
-returns-in-Err-Memory g c = record {
+pub returns-in-Err-Memory-clause-taken : goal.returns-in-Err-Memory-clause-taken
+returns-in-Err-Memory-clause-taken g c = record {
   taken = λ p are when.
       let now = c.now-now.result in
       let k = c.args.keeper.now in
@@ -18,7 +18,7 @@ returns-in-Err-Memory g c = record {
       let put = c.in-Err-Memory.field-0-0 in
       let is : c.write_samples.result ≡ Err (why.Memory put) = cc in (
         now,
-        c.now-now.ensures,
+        c.now-now.ensures.given,
         takes_first p (map keyed_value c.args.values.now) are c.args.lead now k
             c.write_samples.new.self c.args.time when put _
             (record {
@@ -30,15 +30,15 @@ returns-in-Err-Memory g c = record {
   count_fits = search rules;
 }
 
-pub returns-in-Ok : goal.returns-in-Ok
-returns-in-Ok g c = record {
+pub returns-in-Ok-clause-taken : goal.returns-in-Ok-clause-taken
+returns-in-Ok-clause-taken g c = record {
   taken = λ p are when.
       let now = c.now-now.result in
       let k = c.args.keeper.now in
       let back = to_z-of_z {w = w64} {z = now} (search rules) in
       let same = length-map c.args.values.now keyed_value in (
         now,
-        c.now-now.ensures,
+        c.now-now.ensures.given,
         takes_put p (map keyed_value c.args.values.now) are c.args.lead now k
             c.write_samples.new.self c.args.time when _ c.in-Ok.count (c.in-Ok.ensures.count ∙ sym same)
             (record {
@@ -50,8 +50,8 @@ returns-in-Ok g c = record {
   count_fits = search rules;
 }
 
-pub returns-in-Err-NumbersSpent : goal.returns-in-Err-NumbersSpent
-returns-in-Err-NumbersSpent g c = record {
+pub returns-in-Err-NumbersSpent-clause-taken : goal.returns-in-Err-NumbersSpent-clause-taken
+returns-in-Err-NumbersSpent-clause-taken g c = record {
   taken = λ p are when.
       let now = c.now-now.result in
       let k = c.args.keeper.now in
@@ -59,7 +59,7 @@ returns-in-Err-NumbersSpent g c = record {
       let same = length-map c.args.values.now keyed_value in
       let is : c.write_samples.result ≡ Err why.NumbersSpent = cc in (
         now,
-        c.now-now.ensures,
+        c.now-now.ensures.given,
         takes_spent p (map keyed_value c.args.values.now) are c.args.lead now k
             c.write_samples.new.self c.args.time when _ refl
             (record {
@@ -71,8 +71,8 @@ returns-in-Err-NumbersSpent g c = record {
   count_fits = search rules;
 }
 
-pub returns-in-Err-AheadOfClock : goal.returns-in-Err-AheadOfClock
-returns-in-Err-AheadOfClock g c = record {
+pub returns-in-Err-AheadOfClock-clause-taken : goal.returns-in-Err-AheadOfClock-clause-taken
+returns-in-Err-AheadOfClock-clause-taken g c = record {
   taken = λ p are when.
       let now = c.now-now.result in
       let k = c.args.keeper.now in
@@ -80,7 +80,7 @@ returns-in-Err-AheadOfClock g c = record {
       let same = length-map c.args.values.now keyed_value in
       let is : c.write_samples.result ≡ Err why.AheadOfClock = cc in (
         now,
-        c.now-now.ensures,
+        c.now-now.ensures.given,
         takes_ahead p (map keyed_value c.args.values.now) are c.args.lead now k
             c.write_samples.new.self c.args.time when _ refl
             (record {

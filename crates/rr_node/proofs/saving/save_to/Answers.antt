@@ -26,6 +26,7 @@ returns g c =
           whole = save.saves.whole;
           front = save.saves.front;
           too_many = save.too_many;
+          nothing_written = save.nothing_written;
           failed = save.saves.failed;
         },
       )),

@@ -11,10 +11,12 @@ returns-in_err-write_lines g c =
       served = search rules;
       stopped = rw given.1 (
         ended.0,
-        rw c.renew.ensures at ended.1,
+        rw c.renew.ensures.given at ended.1,
         λ start pushed said text first has appends. stops_serving c.args.self.now start c.args.keeper.now _ pushed text
             said ended.0 first _ ended.2 has appends,
       );
+      renewed = search rules;
+      flushed = search rules;
       writes = search rules;
     }
 
@@ -23,15 +25,17 @@ returns-in_err-send g c =
     let given = err_from_is_err_and c.from_residual-in_err-send.result c.from_residual-in_err-send.ensures.1 in
     let served = c.in_ok-write_lines.ensures.served in
     let none : c.new-answers.result.items ≡ [] = search rules in
-    let part = rw (c.as_slice.ensures.value, served.3, none) at c.in_err-send.ensures.front in
+    let part = rw (c.as_slice.ensures.value, served.3, none) at c.in_err-send.ensures.writes.front in
     record {
       served = search rules;
       stopped = rw given.1 (
         served.0,
-        rw c.renew.ensures at served.2,
+        rw c.renew.ensures.given at served.2,
         λ start pushed said text first has appends. stops_answering c.args.self.now _ start c.args.keeper.now _ pushed
             text served.1 said served.0 first _ _ served.4.items has appends part,
       );
+      renewed = search rules;
+      flushed = search rules;
       writes = search rules;
     }
 
@@ -39,9 +43,11 @@ pub returns : goal.returns
 returns g c =
     let served = c.in_ok-write_lines.ensures.served in
     let none : c.new-answers.result.items ≡ [] = search rules in
-    let whole = rw (c.as_slice.ensures.value, served.3, none) at c.in_ok-send.ensures.whole in
+    let whole = rw (c.as_slice.ensures.value, served.3, none) at c.in_ok-send.ensures.writes.whole in
     record {
-      served = (served.0, served.1, rw c.renew.ensures at served.2, whole, served.4);
+      served = (served.0, served.1, rw c.renew.ensures.given at served.2, whole, served.4);
       stopped = search rules;
+      renewed = search rules;
+      flushed = search rules;
       writes = search rules;
     }

@@ -27,6 +27,8 @@ returns-in_err-answer_lines g c = record {
             (said ++ stopped.0) first _ refl (comes_at_end c.end.new.self pushed)
             (stopped.2 start pushed said text first last appends),
       );
+  renewed = search rules;
+  flushed = search rules;
   writes = search rules;
 }
 
@@ -51,6 +53,8 @@ returns-in_err-publish g c = record {
             (stops_of _ c.args.self.now.rules start c.answer_lines.new.keeper (ComesAfter c.end.new.self pushed)
             (λ bytes. bytes ≡ pushed) (said ++ served.0) first since refl (comes_at_end c.end.new.self pushed) stops),
       );
+  renewed = search rules;
+  flushed = search rules;
   writes = search rules;
 }
 
@@ -80,8 +84,10 @@ returns-in_err-send_report g c = record {
             (λ bytes. bytes ≡ pushed) (said ++ served.0) first _ served.4.items.rules (λ bytes e. e)
             (stops_reporting new start c.answer_lines.new.keeper c.publish.new.self pushed (text ++ served.1)
             (said ++ served.0) first _ _ done c.in_ok-publish.ensures.state.made
-            (Appends-trans _ _ _ text served.1 appends served.3) c.in_err-send_report.ensures.front),
+            (Appends-trans _ _ _ text served.1 appends served.3) c.in_err-send_report.ensures.sends.front),
       );
+  renewed = search rules;
+  flushed = search rules;
   writes = search rules;
 }
 
@@ -107,8 +113,10 @@ returns g c = record {
             (g.W.Write.contents (inner_of c.send_report.new.output))) served.4.items.rules
             (whole_of new start c.answer_lines.new.keeper c.publish.new.self pushed (text ++ served.1) (said ++ served.0)
             new.report first _ _ done c.in_ok-publish.ensures.state.made refl
-            (Appends-trans _ _ _ text served.1 appends served.3) c.in_ok-send_report.ensures.whole),
+            (Appends-trans _ _ _ text served.1 appends served.3) c.in_ok-send_report.ensures.sends.whole),
       );
   stopped = search rules;
+  renewed = search rules;
+  flushed = search rules;
   writes = search rules;
 }

@@ -1,4 +1,4 @@
-use Rattle.std.proofs.Common.{ℕ, ◌+◌, Some, None, List, [], ◌++◌, refl, sym, ap, ◌∙◌, append_assoc, append-nil}
+use Rattle.std.proofs.Common.{ℕ, ◌+◌, Some, None, List, [], ◌++◌, refl, sym, ap, ◌∙◌, append_assoc, append-nil, rules}
 use Rattle.std.proofs.lemmas.Result.{err_from_is_err_and}
 use Rattle.rr_feed.specs.Items.{item_view}
 use Rattle.rr_feed.specs.Feed.{HandsOut}
@@ -9,13 +9,16 @@ use Rattle.rr_node.proofs.ConnectionLemmas.{ServedItems-nothing, ServedItems-ite
 use Rattle.rr_node.proofs.connection.Connection.write_lines.Goals as goal
 
 pub loop-item-init : goal.loop-item-init
-loop-item-init g c = (
-  [],
-  [],
-  HasGiven-nil _,
-  sym (append-nil c.args.answers.now.items),
-  ServedItems-nothing c.args.self.now c.args.keeper.now,
-)
+loop-item-init g c = record {
+  served = (
+    [],
+    [],
+    HasGiven-nil _,
+    sym (append-nil c.args.answers.now.items),
+    ServedItems-nothing c.args.self.now c.args.keeper.now,
+  );
+  renewals = refl;
+}
 
 pub returns-in_err-answer-clause-ended : goal.returns-in_err-answer-clause-ended
 returns-in_err-answer-clause-ended g c =
@@ -24,8 +27,8 @@ returns-in_err-answer-clause-ended g c =
     let item = item_view c.in-Some.item in
     let hands : HandsOut old.feed (Some item) c.next_line.follows.lender-at-none =
     rw c.in-Some.is at c.next_line.follows.holds-at-none in
-    let so_far = c.loop-item.invariant in
-    let takes = c.in_err-answer.ensures in
+    let so_far = c.loop-item.invariant.served in
+    let takes = c.in_err-answer.ensures.handled in
     rw given.1 (
       so_far.0 ++ takes.asked,
       HasGiven-trans _ _ _ so_far.0 takes.asked so_far.2 takes.gave,
@@ -41,8 +44,8 @@ returns-in_err-count-clause-ended g c =
     let item = item_view c.in-Some.item in
     let hands : HandsOut old.feed (Some item) c.next_line.follows.lender-at-none =
     rw c.in-Some.is at c.next_line.follows.holds-at-none in
-    let so_far = c.loop-item.invariant in
-    let takes = c.in_ok-answer.ensures in
+    let so_far = c.loop-item.invariant.served in
+    let takes = c.in_ok-answer.ensures.handled in
     let whole = taken_whole old.rules item takes.asked c.loop-item.keeper _ _ takes.taken in
     rw given.1 (
       so_far.0 ++ takes.asked,
@@ -60,8 +63,8 @@ returns-in_err-publish_in_turn-clause-ended g c =
     let item = item_view c.in-Some.item in
     let hands : HandsOut old.feed (Some item) c.next_line.follows.lender-at-none =
     rw c.in-Some.is at c.next_line.follows.holds-at-none in
-    let so_far = c.loop-item.invariant in
-    let takes = c.in_ok-answer.ensures in
+    let so_far = c.loop-item.invariant.served in
+    let takes = c.in_ok-answer.ensures.handled in
     let whole = taken_whole old.rules item takes.asked c.loop-item.keeper _ _ takes.taken in
     rw given.1 (
       so_far.0 ++ takes.asked,
@@ -77,35 +80,39 @@ loop-item-preserved g c =
     let item = item_view c.in-Some.item in
     let hands : HandsOut old.feed (Some item) c.next_line.follows.lender-at-none =
     rw c.in-Some.is at c.next_line.follows.holds-at-none in
-    let so_far = c.loop-item.invariant in
-    let takes = c.in_ok-answer.ensures in
+    let so_far = c.loop-item.invariant.served in
+    let takes = c.in_ok-answer.ensures.handled in
     let answer = c.in_ok-answer.answer in
     let whole = taken_whole old.rules item takes.asked c.loop-item.keeper _ answer takes.taken in
     let counted = c.in_ok-count.ensures in
     let lines = counted.lines in
-    let text = text_to (old.lines + 1) answer in (
-      so_far.0 ++ takes.asked,
-      so_far.1 ++ text,
-      HasGiven-trans _ _ _ so_far.0 takes.asked so_far.2 takes.gave,
-      counted.answered ∙ ap (λ (t : List ℕ). t ++ text) so_far.3 ∙ append_assoc c.args.answers.now.items so_far.1 text,
-      ServedItems-item c.args.self.now old c.count.new.self c.args.keeper.now c.loop-item.keeper _ so_far.0 takes.asked
-          so_far.1 item answer (record {
-            hands = rw counted.feed hands;
-            few = whole.0;
-            keeper = rw (lines, whole.1) at c.in_ok-publish_in_turn.ensures.published;
-            told = whole.2;
-            lines = lines;
-            report = counted.report;
-            rules = counted.rules;
-            pieces = counted.pieces;
-          }) so_far.4,
-    )
+    let text = text_to (old.lines + 1) answer in
+    record {
+      served = (
+        so_far.0 ++ takes.asked,
+        so_far.1 ++ text,
+        HasGiven-trans _ _ _ so_far.0 takes.asked so_far.2 takes.gave,
+        counted.answered ∙ ap (λ (t : List ℕ). t ++ text) so_far.3 ∙ append_assoc c.args.answers.now.items so_far.1 text,
+        ServedItems-item c.args.self.now old c.count.new.self c.args.keeper.now c.loop-item.keeper _ so_far.0 takes.asked
+            so_far.1 item answer (record {
+              hands = rw counted.feed hands;
+              few = whole.0;
+              keeper = rw (lines, whole.1) at c.in_ok-publish_in_turn.ensures.published;
+              told = whole.2;
+              lines = lines;
+              report = counted.report;
+              rules = counted.rules;
+              pieces = counted.pieces;
+            }) so_far.4,
+      );
+      renewals = search rules;
+    }
 
 pub returns-clause-served : goal.returns-clause-served
 returns-clause-served g c =
     let hands : HandsOut c.loop-item.self.feed None c.next_line.follows.lender-at-none =
     rw c.in_default.is at c.next_line.follows.holds-at-none in
-    let so_far = c.loop-item.invariant in (
+    let so_far = c.loop-item.invariant.served in (
       so_far.0,
       so_far.1,
       so_far.2,

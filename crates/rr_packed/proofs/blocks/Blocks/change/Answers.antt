@@ -5,7 +5,7 @@ use Rattle.std.proofs.lemmas.Result.{on_ok_weaker, on_err_weaker}
 use Rattle.rr_archive.specs.declared.entry.Entry.{Entry}
 use Rattle.rr_archive.specs.Row.{entry_at}
 use Rattle.rr_archive.specs.Changes.{Fits}
-use Rattle.rr_packed.specs.Slots.{block_of, row_of}
+use Rattle.rr_packed.specs.Slots.{block_of, row_of, begins_before}
 use Rattle.rr_packed.specs.Blocks.{all_blocks, row_at, stored_in, items_of_block, IsPlaceOf}
 use Rattle.rr_packed.proofs.NumberLemmas.{older_put, newest_put, none_past}
 use Rattle.rr_packed.proofs.BlocksLemmas.{blocks_alike, slot_found, room_found, room_there, room_stays, change_there}
@@ -44,9 +44,11 @@ invariant_of-self c =
     let a = c.place_of.new.self in
     let place : IsPlaceOf (block_of c.args.slot) (all_blocks a) c.in_ok-at.at = search rules in
     let within : c.in_ok-at.at < length a.older.items = search rules in
+    let put = older_put a.older.items (option_to_list a.newest) (block_of c.args.slot) c.in_ok-at.at
+    c.index_mut.result.now c.change.new.self a.ordered place within c.index_mut.ensures.value in
     record {
-      ordered = (older_put a.older.items (option_to_list a.newest) (block_of c.args.slot) c.in_ok-at.at
-          c.index_mut.result.now c.change.new.self a.ordered place within c.index_mut.ensures.value).ascend;
+      ordered = put.ascend;
+      none_before = ap (begins_before a.dropped) put.numbers ∙ a.none_before;
     }
 
 pub returns-then-at-len : goal.returns-then-at-len

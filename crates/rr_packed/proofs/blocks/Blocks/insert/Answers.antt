@@ -1,9 +1,12 @@
-use Rattle.std.proofs.Common.{rules, ◌≡◌, ◌≤◌, ◌<◌, [], ◌∷◌, ◌++◌, insert, length, sym, ap, ◌∙◌, subst, to_z, of_z, w64}
+use Rattle.std.proofs.Common.{rules, ◌≡◌, false, ◌≤◌, ◌<◌, [], ◌∷◌, ◌++◌, insert, length, sym, ap, ◌∙◌, subst, to_z, of_z, w64}
+use Rattle.std.specs.Int.{int_min}
+use Rattle.std.specs.Map.{keys_of}
 use Rattle.std.specs.Option.{option_to_list}
 use Rattle.std.proofs.lemmas.List.{append-nil}
 use Rattle.std.proofs.lemmas.Result.{on_ok_weaker, on_err_weaker}
+use Rattle.rr_packed.specs.Slots.{begins_before}
 use Rattle.rr_packed.specs.Blocks.{all_blocks, IsBlockSet, IsGapFor, IsPlaceOf}
-use Rattle.rr_packed.proofs.NumberLemmas.{Ascend, older_added, newest_added}
+use Rattle.rr_packed.proofs.NumberLemmas.{Ascend, begins_later, min_left, min_right, older_added, newest_added}
 use Rattle.rr_packed.proofs.BlocksLemmas.{either}
 use Rattle.rr_packed.proofs.blocks.Blocks.insert.Goals as goal
 
@@ -26,6 +29,18 @@ invariant_of-self c =
           c.insert.ensures.items)
           (on_err_weaker c.insert.result (λ kept. subst (λ l. Ascend (l ++ option_to_list p.newest)) (sym kept.0)
           p.ordered) c.insert.ensures.unchanged);
+      none_before =
+          let least = int_min p.dropped c.args.number in
+          let kept = begins_later p.dropped least (keys_of (all_blocks p)) p.none_before (min_left p.dropped
+          c.args.number) in
+          let is : to_z w64 (of_z w64 c.min-self.result) ≡ least = search rules in
+          subst (λ d. begins_before d (keys_of (c.insert.new.self.items ++ option_to_list p.newest)) ≡ false) (sym is)
+          (either c.insert.result
+          (on_ok_weaker c.insert.result (λ items. subst (λ l. begins_before least (keys_of (l ++ option_to_list p.newest))
+          ≡ false) (sym (items ∙ ap (λ n. insert p.older.items c.args.at (n, c.args.block)) number))
+          (added.none_before least kept (min_right p.dropped c.args.number))) c.insert.ensures.items)
+          (on_err_weaker c.insert.result (λ same. subst (λ l. begins_before least (keys_of (l ++ option_to_list p.newest))
+          ≡ false) (sym same.0) kept) c.insert.ensures.unchanged));
     }
 
 pub returns-in_ok-insert-clause-added : goal.returns-in_ok-insert-clause-added
@@ -70,6 +85,19 @@ invariant_of-self-else-is_some c =
       ordered = subst (λ l. Ascend (l ++ (to_z w64 (of_z w64 c.args.number), c.args.block) ∷ [])) older
           (subst (λ n. Ascend (bs ++ (n, c.args.block) ∷ [])) (sym number)
           (newest_added bs c.args.number c.args.at c.args.block c.args.self.now.ordered c.requires past).ascend);
+      none_before =
+          let least = int_min r.dropped c.args.number in
+          let is : to_z w64 (of_z w64 c.min-self-else-is_some.result) ≡ least = search rules in
+          let kept = begins_later r.dropped least (keys_of (all_blocks r)) r.none_before (min_left r.dropped
+          c.args.number) in
+          subst (λ d. begins_before d (keys_of (r.older.items ++ (to_z w64 (of_z w64 c.args.number), c.args.block) ∷ []))
+          ≡ false) (sym is)
+          (subst (λ l. begins_before least (keys_of (l ++ (to_z w64 (of_z w64 c.args.number), c.args.block) ∷ []))
+          ≡ false) older
+          (subst (λ n. begins_before least (keys_of (bs ++ (n, c.args.block) ∷ [])) ≡ false) (sym number)
+          ((newest_added bs c.args.number c.args.at c.args.block c.args.self.now.ordered c.requires past).none_before
+          least (subst (λ l. begins_before least (keys_of l) ≡ false) c.retire.ensures.same kept)
+          (min_right r.dropped c.args.number))));
     }
 
 pub returns-in_ok-retire-clause-added : goal.returns-in_ok-retire-clause-added

@@ -2,7 +2,7 @@ use Rattle.std.proofs.Common.{rules, ◌≡◌, ◌<◌, ◌≤◌, length, sym,
 use Rattle.std.specs.Prelude.{IsOk}
 use Rattle.std.specs.Option.{option_to_list}
 use Rattle.std.proofs.lemmas.Result.{on_ok_weaker}
-use Rattle.rr_packed.specs.Slots.{block_of, row_of}
+use Rattle.rr_packed.specs.Slots.{block_of, row_of, begins_before}
 use Rattle.rr_packed.specs.Blocks.{all_blocks, items_of_block, IsPlaceOf}
 use Rattle.rr_packed.proofs.NumberLemmas.{older_put, newest_put, none_past}
 use Rattle.rr_packed.proofs.BlocksLemmas.{blocks_alike, room_found, room_at, room_there, room_stays}
@@ -27,9 +27,11 @@ invariant_of-self c =
     let a = c.place_of.new.self in
     let place : IsPlaceOf (block_of c.args.slot) (all_blocks a) c.in_ok-at.at = search rules in
     let within : c.in_ok-at.at < length a.older.items = search rules in
+    let put = older_put a.older.items (option_to_list a.newest) (block_of c.args.slot) c.in_ok-at.at
+    c.index_mut.result.now c.make_room.new.self a.ordered place within c.index_mut.ensures.value in
     record {
-      ordered = (older_put a.older.items (option_to_list a.newest) (block_of c.args.slot) c.in_ok-at.at
-          c.index_mut.result.now c.make_room.new.self a.ordered place within c.index_mut.ensures.value).ascend;
+      ordered = put.ascend;
+      none_before = ap (begins_before a.dropped) put.numbers ∙ a.none_before;
     }
 
 pub returns-then-at-len : goal.returns-then-at-len

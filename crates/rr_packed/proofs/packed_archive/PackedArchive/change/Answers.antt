@@ -15,8 +15,8 @@ use Rattle.rr_packed.proofs.PackedLemmas.{set_in_packed}
 use Rattle.rr_packed.proofs.packed_archive.PackedArchive.change.Goals as goal
 
 -- a change past the horizon leaves no trace
-pub returns-then-not-is_live : goal.returns-then-not-is_live
-returns-then-not-is_live c = record {
+pub returns-then-not-is_live-clause-cells : goal.returns-then-not-is_live-clause-cells
+returns-then-not-is_live-clause-cells c = record {
   changed =
       let a = c.args.self.now in
       let p = cell_slot c.args.slot c.args.origin in
@@ -77,7 +77,7 @@ steps c =
     let first : to_z w64 (of_z w64 c.first_live.result) ≡ (c.later-newest.result -ℤ pos a.rows) +ℤ pos 1 =
     search rules in
     let left : IsLeft (to_z w64 (of_z w64 c.first_live.result)) (row_at c.change.new.self)
-    (row_at c.drop_before.new.self) = c.drop_before.ensures in
+    (row_at c.drop_before.new.self) = c.drop_before.ensures.left in
     record {
       top = top;
       live = live;
@@ -102,8 +102,8 @@ invariant_of-self-2 c =
           a.some_row a.held s.set s.latest s.live _ refl in_range);
     }
 
-pub returns : goal.returns
-returns c = record {
+pub returns-clause-cells : goal.returns-clause-cells
+returns-clause-cells c = record {
   changed =
       let a = c.args.self.now in
       let f = row_at a.blocks in

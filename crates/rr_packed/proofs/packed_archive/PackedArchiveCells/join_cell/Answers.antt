@@ -12,7 +12,7 @@ returns c = record {
   taken =
       let a = c.args.self.now in
       let back = to_z-of_z {w = w64} {z = c.args.slot} (search rules) in
-      let ok = rw back at c.change.ensures.changed in
+      let ok = rw back at c.change.ensures.cells.changed in
       on_ok_weaker c.change.result (λ e. e ∙ join_cell-is a.rows (cells_in a.rows a.newest a.blocks)
       (cell_slot c.args.slot c.args.origin) c.args.contribution.now) ok;
   dead = search rules;

@@ -2,7 +2,7 @@ use Rattle.std.proofs.Common.{◌≡◌, Some, None, sym, ◌∙◌}
 use Rattle.rr_replica.specs.Indexed.{index_of}
 use Rattle.rr_replica.proofs.IndexedLemmas.{archives_found, archives_nowhere}
 use Rattle.rr_replica.proofs.Lending.{lent_at}
-use Rattle.rr_replica.proofs.series.SeriesMap.get.Goals as goal
+use Rattle.rr_replica.proofs.series.SeriesMap.get_near.Goals as goal
 
 pub returns-in-Some : goal.returns-in-Some
 returns-in-Some g c =

@@ -1,0 +1,167 @@
+//! A node over memory with two seats, each of which is served on a thread of its own.
+
+use super::gates::{Meets, Signal};
+use rr_desk::{Keeper, Reader, open};
+use rr_fakes::replicas::minutes;
+use rr_node::{
+    Config, Moments, Prepared, PreparedDial, PreparedShelf, Seat, Seats, serve_node, serve_seat,
+};
+use rr_packed::PackedArchive;
+use rr_server::HaltFlag;
+use std::alloc::Global;
+use std::sync::Wait;
+use std::sync::atomic::{AtomicU64, Ordering};
+use std::test::Fail;
+use std::thread::{Threads, for_each_mut};
+
+/// The configuration of a node of three rows a minute to which no line connection comes, and which
+/// takes one connection at each of two seats.
+const CONFIG: &[u8] = b"step = 60\nlines = \"l\"\nfetch = [\"f\", \"g\"]\nvisits = 1\n\
+    [[archive]]\nsteps = 1\nrows = 3\nxff_num = 0\nxff_den = 1\n";
+
+/// What each seat is asked.
+const REQUEST: &[u8] = b"fetch LAST 60 0 120 m v\n";
+
+/// What each answers: nothing is known.
+const ROWS: &[u8] = b"m v,0,U\nm v,60,U\n\n";
+
+/// A seat over memory whose answer waits for that of the other.
+type InMemory<'a> = Seat<PackedArchive, Prepared<'a>, Meets>;
+
+/// Two seats.
+#[derive(Drop)]
+struct Two<'a> {
+    seats: Vec<InMemory<'a>>,
+}
+
+/// Serves a seat, and answers whether memory sufficed.
+fn is_served(alloc: Global, seat: &mut InMemory<'_>, visits: u64) -> bool {
+    serve_seat(alloc, seat, visits).is_ok()
+}
+
+impl<'a> Seats for Two<'a> {
+    ghost use Rattle.std.specs.Prelude.{None};
+
+    ghost calls = { λ _. None };
+
+    fn serve<T: Threads + Sync>(&mut self, rt: &T, alloc: Global, visits: u64) -> bool {
+        let served = AtomicU64::new(0);
+        let count = &served;
+        for_each_mut(
+            rt,
+            self.seats.as_mut_slice(),
+            2,
+            &|_, seat: &mut InMemory<'a>| {
+                if is_served(alloc, seat, visits) {
+                    count.fetch_add(1, Ordering::SeqCst);
+                }
+            },
+        );
+        served.load(Ordering::SeqCst) == 2
+    }
+}
+
+/// A seat that is asked once.
+fn seat<'a>(
+    alloc: Global,
+    reader: Reader<PackedArchive>,
+    inputs: &'a [Option<&'a [u8]>],
+    own: &Signal,
+    other: &Signal,
+) -> Option<InMemory<'a>> {
+    let gate = Meets {
+        own: own.share().ok()?,
+        other: other.share().ok()?,
+    };
+    let visits = Prepared::new(alloc, inputs).ok()?;
+    Some(Seat {
+        reader,
+        visits,
+        gate,
+    })
+}
+
+/// Whether a seat answered that nothing is known.
+fn has_answered(seat: InMemory<'_>) -> bool {
+    let Seat {
+        reader: _,
+        visits,
+        gate: _,
+    } = seat;
+    visits
+        .into_last()
+        .is_some_and(|answer| answer.as_slice() == ROWS)
+}
+
+/// Two seats, of which each waits for the other.
+fn two_seats<'a>(
+    clock: &HostRuntime,
+    alloc: Global,
+    readers: (Reader<PackedArchive>, Reader<PackedArchive>),
+    inputs: &'a [Option<&'a [u8]>],
+) -> Option<Two<'a>> {
+    let first = Signal::new(clock, alloc).ok()?;
+    let second = Signal::new(clock, alloc).ok()?;
+    let one = seat(alloc, readers.0, inputs, &first, &second)?;
+    let two = seat(alloc, readers.1, inputs, &second, &first)?;
+    Some(Two {
+        seats: Vec::from_array(alloc, [one, two]).ok()?,
+    })
+}
+
+/// Serves a node with these seats, to which no line connection comes.
+fn serve_both<R: Threads + Wait + Sync>(
+    rt: &R,
+    alloc: Global,
+    keeper: &mut Keeper<PackedArchive>,
+    both: &mut Two<'_>,
+) -> Option<()> {
+    let config = Config::from_toml(alloc, CONFIG).ok()?;
+    let mut lines = Prepared::new(alloc, &[]).ok()?;
+    let mut dial = PreparedDial::new(alloc, &[], 0).ok()?;
+    let mut shelf = PreparedShelf::new(alloc, &[], 0).ok()?;
+    let mut halt = HaltFlag::new(alloc).ok()?;
+    let mut clock = Moments::new(Vec::new(alloc));
+    serve_node(
+        alloc, keeper, &mut lines, &mut dial, &mut shelf, both, &mut halt, &mut clock, &config, rt,
+    )
+    .ok()
+}
+
+/// Whether each of two seats of a node answers.
+fn answer_both<R: Threads + Wait + Sync>(
+    rt: &R,
+    clock: &HostRuntime,
+    alloc: Global,
+    keeper: &mut Keeper<PackedArchive>,
+    readers: (Reader<PackedArchive>, Reader<PackedArchive>),
+) -> Option<(bool, bool)> {
+    let inputs = [Some(REQUEST)];
+    let mut both = two_seats(clock, alloc, readers, &inputs)?;
+    serve_both(rt, alloc, keeper, &mut both)?;
+    let Two { mut seats } = both;
+    Some((has_answered(seats.pop()?), has_answered(seats.pop()?)))
+}
+
+/// Whether each seat of a node answers whose desk is opened for them.
+fn answers_of_a_desk<R: Threads + Wait + Sync>(
+    rt: &R,
+    clock: &HostRuntime,
+    alloc: Global,
+) -> Option<(bool, bool)> {
+    let replica = minutes::<PackedArchive>(alloc, 1, 3).ok()?;
+    let (mut keeper, mut readers) = open(alloc, rt, replica, 2).ok()?;
+    let both = match (readers.pop(), readers.pop()) {
+        (Some(one), Some(two)) => answer_both(rt, clock, alloc, &mut keeper, (one, two)),
+        _ => None,
+    };
+    keeper.close(rt);
+    both
+}
+
+#[test]
+fn seats_answer_beside_each_other(rt: HostRuntime) -> Result<(), Fail> {
+    let both = answers_of_a_desk(&rt, &rt, rt.alloc());
+    assert_eq!(rt; both, Some((true, true)));
+    Ok(())
+}
