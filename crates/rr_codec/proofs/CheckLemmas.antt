@@ -1,15 +1,18 @@
 -- Checking cells one after the other, as a loop does.
-use Rattle.std.proofs.Common.{◌≡◌, ◌↔◌, ℕ, zero, suc, ◌-◌, ◌+◌, ◌≤◌, ◌<◌, Bool, true, false, List, [], ◌∷◌, length, Option, None, Some, Result, Ok, Err, IsTrue, refl, sym, ap, ◌∙◌, true≢false, arith, rules}
-use Rattle.std.specs.Prelude.{◌==◌}
+use Rattle.std.proofs.Common.{◌≡◌, ◌↔◌, ℕ, zero, suc, ◌-◌, ◌+◌, ◌≤◌, ◌<◌, Bool, true, false, List, [], ◌∷◌, length, Option, None, Some, Result, Ok, Err, IsTrue, refl, sym, ap, subst, ◌∙◌, true≢false, arith, rules}
+use Rattle.std.specs.Prelude.{◌==◌, not}
 use Rattle.std.proofs.lemmas.Bool.Decides.{nat_tests}
 use Rattle.rr_text.specs.Results.{◌>>=◌}
 use Rattle.rr_schema.specs.Schema.{Layout}
 use Rattle.rr_codec.specs.declared.fault.CodecFault.{CodecFault}
-use Rattle.rr_codec.specs.declared.fault.CodecFault.TheVariants.{TrailingBytes}
+use Rattle.rr_codec.specs.declared.fault.CodecFault.TheVariants.{BadContribution, OutOfOrder, TrailingBytes}
 use Rattle.rr_codec.specs.Fields.{SlotEntry}
 use Rattle.rr_codec.specs.Recent.{KnownState, nothing_known}
-use Rattle.rr_codec.specs.Reading.{alone, cells_checked, checked_at, checked_count, head_at, rest_of}
+use Rattle.rr_codec.specs.Reading.{alone, cell_at, cell_checked, cells_at, cells_checked, cells_of, checked_at, checked_cells_of, checked_count, head_at, is_behind, packed_at, rest_of}
+use Rattle.rr_contrib.specs.Validity.{is_valid}
+use Rattle.rr_codec.specs.Laws.{AreChecked}
 use Rattle.rr_codec.proofs.LoopLemmas.{Read, FirstRead}
+use Rattle.rr_codec.proofs.TextLemmas.{done, done_same, unless_ok, with_then}
 
 pub same_truth : {P : Type 0} (a b : Bool) → IsTrue a ↔ P → IsTrue b ↔ P → a ≡ b
 same_truth true true f g = refl
@@ -21,6 +24,10 @@ pub none_of : (xs : List ℕ) → true ≡ (length xs == 0) → xs ≡ []
 none_of [] e = refl
 none_of (x ∷ xs) e =
     let some : (suc (length xs) == 0) ≡ false = grind (arith, nat_tests) in absurd (true≢false (e ∙ some))
+
+is_true : (t : Bool) → not t ≡ false → IsTrue t
+is_true true e = search rules
+is_true false e = absurd (true≢false e)
 
 module _ (s : Layout) (archive : ℕ) where
   -- a checked cell, and then so many
@@ -130,3 +137,52 @@ module _ (s : Layout) (archive : ℕ) where
 
     pub good : rest_of read ≡ Ok [] → checked_count s archive bytes ≡ Ok count
     good e = all_of ∙ alone_of read count e (lens count None (nothing_known span) cells e)
+
+  -- ---- what is taken
+
+  -- read as these cells, which are checked
+  record AreTaken (before : Option SlotEntry) (k : KnownState) (n : ℕ) (bytes : List ℕ) (es : List SlotEntry)
+      (rest : List ℕ) : Type 0 where
+    read : cells_at k n bytes ≡ done (es, rest)
+    checked : AreChecked s archive before es
+
+  taken : (n : ℕ) (before : Option SlotEntry) (k : KnownState) (bytes : List ℕ) (es : List SlotEntry) (rest : List ℕ)
+      → cells_checked s archive before k n bytes ≡ done (es, rest) → AreTaken before k n bytes es rest
+  unfolding cells_checked cells_at checked_at
+  taken zero before k bytes es rest e =
+      let same = done_same ([], bytes) (es, rest) e in
+      subst (λ (x : List SlotEntry × List ℕ). AreTaken before k zero bytes x.0 x.1) same
+      (record { read = refl; checked = tt })
+  taken (suc n) before k bytes es rest e =
+      with_then (checked_at s archive before k bytes) _ (es, rest) e (λ first first_is e1.
+      with_then (cells_checked s archive (Some first.0.0) first.0.1 n first.1) _ (es, rest) e1 (λ others others_are e2.
+      with_then (cell_at k bytes) _ first first_is (λ cell cell_is e3.
+      with_then (cell_checked s archive before cell.0.0) _ first e3 (λ checked checked_is e4.
+      let valid = unless_ok BadContribution (not (is_valid s archive cell.0.0.0 cell.0.0.1.contribution)) _ checked checked_is in
+      let behind = unless_ok OutOfOrder (not (is_behind before cell.0.0)) _ checked valid.1 in
+      let same_cell : cell.0.0 ≡ checked = done_same cell.0.0 checked behind.1 in
+      let same_first : ((cell.0.0, cell.0.1), cell.1) ≡ first =
+      ap (λ (c : SlotEntry). ((c, cell.0.1), cell.1)) same_cell ∙ done_same ((checked, cell.0.1), cell.1) first e4 in
+      let later = taken n (Some first.0.0) first.0.1 first.1 others.0 others.1 others_are in
+      let first_read : cell_at k bytes ≡ done first = cell_is ∙ ap (λ (x : (SlotEntry × KnownState) × List ℕ). done x) same_first in
+      let own : IsTrue (is_valid s archive first.0.0.0 first.0.0.1.contribution) × IsTrue (is_behind before first.0.0) =
+      subst (λ (x : (SlotEntry × KnownState) × List ℕ). IsTrue (is_valid s archive x.0.0.0 x.0.0.1.contribution)
+      × IsTrue (is_behind before x.0.0)) same_first (is_true _ valid.0, is_true _ behind.0) in
+      subst (λ (x : List SlotEntry × List ℕ). AreTaken before k (suc n) bytes x.0 x.1)
+      (done_same (first.0.0 ∷ others.0, others.1) (es, rest) e2)
+      (record {
+        read = rw (first_read, later.read) refl;
+        checked = (own.0, own.1, later.checked);
+      })))))
+
+  pub are_taken : (bytes : List ℕ) (es : List SlotEntry) → checked_cells_of s archive bytes ≡ done es
+      → (cells_of bytes ≡ done es) × AreChecked s archive None es
+  unfolding packed_at
+  are_taken bytes es e =
+      with_then (head_at bytes) _ es e (λ head head_is e1.
+      with_then (cells_checked s archive None (nothing_known head.0.1) head.0.0 head.1) alone es e1 (λ cells cells_are e2.
+      let is = taken head.0.0 None (nothing_known head.0.1) head.1 cells.0 cells.1 cells_are in
+      let same : cells.0 ≡ es = done_same cells.0 es (unless_ok TrailingBytes (not (length cells.1 == 0)) _ es e2).1 in (
+        rw (head_is, is.read) e2,
+        subst (λ (x : List SlotEntry). AreChecked s archive None x) same is.checked,
+      )))

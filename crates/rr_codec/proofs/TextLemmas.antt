@@ -33,15 +33,15 @@ then_ok (Ok x) next y e = (x, refl, e)
 then_ok (Err f) next y e = absurd cc
 
 -- a test that doesn't refuse
-unless_ok : {A : Type 0} (f : CodecFault) (refused : Bool) (r : Result A CodecFault) (y : A) → unless f refused r ≡ Ok y
+pub unless_ok : {A : Type 0} (f : CodecFault) (refused : Bool) (r : Result A CodecFault) (y : A) → unless f refused r ≡ Ok y
     → (refused ≡ false) × (r ≡ Ok y)
 unless_ok f true r y e = absurd cc
 unless_ok f false r y e = (refl, e)
 
-abbrev done : {A : Type 0} → A → Result A CodecFault
+abbrev pub done : {A : Type 0} → A → Result A CodecFault
 done x = Ok x
 
-done_same : {A : Type 0} (x y : A) → done x ≡ done y → x ≡ y
+pub done_same : {A : Type 0} (x y : A) → done x ≡ done y → x ≡ y
 done_same x y e = cc
 
 -- ---- numbers
@@ -383,7 +383,7 @@ pub record LeadsTo (k : KnownState) (steps : Steps) (f : Fields) : Type 0 where
   pub steps_are : known_steps k f ≡ steps
   pub wide : AreWide f
 
-no_not : (t : Bool) → not t ≡ false → t ≡ true
+pub no_not : (t : Bool) → not t ≡ false → t ≡ true
 no_not true e = refl
 no_not false e = absurd (true≢false e)
 
@@ -402,7 +402,7 @@ known_back k steps f known wide e =
       wide = from_wide k.span (before_at k.recent place) steps.fields;
     })
 
-with_then : {A B P : Type 0} (r : Result A CodecFault) (next : A → Result B CodecFault) (y : B) → (r >>= next) ≡ done y
+pub with_then : {A B P : Type 0} (r : Result A CodecFault) (next : A → Result B CodecFault) (y : B) → (r >>= next) ≡ done y
     → ((x : A) → r ≡ done x → next x ≡ done y → P) → P
 with_then r next y e goes_on = let x = then_ok r next y e in goes_on x.0 x.1 x.2
 
