@@ -11,6 +11,7 @@ mod keys;
 mod known_lines;
 mod longest_fetch;
 mod lying;
+mod packed_cells;
 mod process;
 mod program;
 mod pulls;

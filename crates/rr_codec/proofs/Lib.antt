@@ -1,0 +1,12 @@
+pub mod NumberLemmas
+pub mod StepLemmas
+pub mod StepsLemmas
+pub mod FieldsLemmas
+pub mod ExpectingLemmas
+pub mod RecentLemmas
+pub mod CellLemmas
+pub mod LengthLemmas
+pub mod TextLemmas
+pub mod LoopLemmas
+pub mod CheckLemmas
+pub mod WriteLemmas

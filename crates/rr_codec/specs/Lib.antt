@@ -1,0 +1,10 @@
+pub mod Fault
+pub mod Numbers
+pub mod Steps
+pub mod Fields
+pub mod Expecting
+pub mod Recent
+pub mod Text
+pub mod Reading
+pub mod Decoding
+pub mod Laws

@@ -1,0 +1,68 @@
+//! Packed cells, written.
+ghost use Rattle.std.specs.Prelude.{◌≡◌, ℕ, ◌<◌, ◌≤◌, ◌+◌, ◌*◌, ◌^◌, ◌++◌, IfOk, OnOk, length};
+ghost use Rattle.rr_codec.specs.Fields.{IsTyped, fields_of};
+ghost use Rattle.rr_codec.specs.Text.{cell_text, next_known, packed_text};
+
+use crate::fields::fields_of;
+use crate::number::push_number;
+use crate::recent::Known;
+use crate::steps::push_steps;
+use rr_archive::Entry;
+use std::alloc::{AllocError, Global};
+
+/// How many nanoseconds a second has.
+const NANOS: u128 = 1_000_000_000;
+
+/// The nanoseconds of a row, to whole seconds, as the last times of the first and the last cell let
+/// guess. What it answers decides how many bytes the cells take, and not which cells are read.
+fn guessed_span(cells: &[(i64, Entry)]) -> u128
+    ensures { result < 2 ^ 128 }
+{
+    let (Some(first), Some(last)) = (cells.first(), cells.last()) else {
+        return 0;
+    };
+    if last.0 <= first.0 {
+        return 0;
+    }
+    let slots = u128::from(last.0.abs_diff(first.0)) * NANOS;
+    let first_time = first.1.contribution.last_time;
+    let nanos = u128::from(last.1.contribution.last_time.abs_diff(first_time));
+    (nanos + slots / 2) / slots * NANOS
+}
+
+/// Adds a cell.
+fn push_cell(bytes: &mut Vec<u8>, known: &mut Known, cell: &(i64, Entry)) -> Result<(), AllocError>
+    ensures added { OnOk result (bytes.new.items
+        ≡ bytes.old.items ++ cell_text known.old cell.now) }
+    ensures next { OnOk result (known.new ≡ next_known known.old cell.now) }
+    ensures typed { OnOk result (IsTyped cell.now) }
+{
+    let fields = fields_of(cell);
+    push_steps(bytes, &known.steps_to(&fields))?;
+    known.add(&fields);
+    Ok(())
+}
+
+/// The cells of an archive as packed bytes, fewer than 2^32 of them. They are read again as these,
+/// whatever follows them. The cost is linear in the cells, and for each in the origins of those
+/// before it, of which 16 are looked at.
+///
+/// A cell takes 1 byte if it is as expected. It takes 123 at most: 2 for the flags, 10 for each of
+/// six fields of 64 bits, 19 for the last time, the sum and the mask, 3 for the origin and 1 for its
+/// place.
+pub fn encode(alloc: Global, cells: &[(i64, Entry)]) -> Result<Vec<u8>, AllocError>
+    requires { length cells.now < 2 ^ 32 }
+    ensures text { IfOk result (λ bytes. (span : ℕ) × (span < 2 ^ 128)
+        × (bytes.items ≡ packed_text span cells.now)) }
+    ensures size { IfOk result (λ bytes. length bytes.items ≤ 24 + 123 * length cells.now) }
+{
+    let mut bytes = Vec::new(alloc);
+    let span = guessed_span(cells);
+    push_number(&mut bytes, cells.len() as u128)?;
+    push_number(&mut bytes, span)?;
+    let mut known = Known::new(span);
+    for cell in cells {
+        push_cell(&mut bytes, &mut known, cell)?;
+    }
+    Ok(bytes)
+}

@@ -1,0 +1,41 @@
+//! Steps from expected numbers to others, up or down, as numbers from 0 on.
+ghost use Rattle.std.specs.Prelude.{◌≡◌};
+ghost use Rattle.rr_codec.specs.Steps.{zigzag, unzigzag, step_to, step_from};
+
+/// A difference, where those just below 0 are small too: 0, up 1 as 2, down 1 as 1, and so on.
+fn zigzag(difference: u128) -> u128
+    ensures { result ≡ zigzag difference }
+{
+    if difference < 1 << 127 {
+        2 * difference
+    } else {
+        2 * (u128::MAX - difference) + 1
+    }
+}
+
+/// The difference that `zigzag` made this of.
+fn unzigzag(step: u128) -> u128
+    ensures { result ≡ unzigzag step }
+{
+    if step % 2 == 0 {
+        step / 2
+    } else {
+        u128::MAX - step / 2
+    }
+}
+
+/// The step from an expected number to another.
+#[tactic(auto, unfolding(crate::specs::Steps::step_to))]
+pub(crate) fn step_to(expected: u128, number: u128) -> u128
+    ensures { result ≡ step_to expected number }
+{
+    zigzag(number.wrapping_sub(expected))
+}
+
+/// The number that a step leads to.
+#[tactic(auto, unfolding(crate::specs::Steps::step_from))]
+pub(crate) fn step_from(expected: u128, step: u128) -> u128
+    ensures { result ≡ step_from expected step }
+{
+    expected.wrapping_add(unzigzag(step))
+}
