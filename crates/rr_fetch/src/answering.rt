@@ -1,6 +1,6 @@
 //! What a replica answers to a request.
 
-ghost use Rattle.std.specs.Prelude.{◌≡◌, ◌*◌, ◌<◌, ◌≤◌, ◌+◌, ◌+ℤ◌, ◌*ℤ◌, pos, unsigned_abs, [], ◌∷◌, length, Err, IfOk, IfSome, OnOk, MatchOption};
+ghost use Rattle.std.specs.Prelude.{◌≡◌, ◌*◌, ◌<◌, ◌≤◌, ◌+◌, ◌-◌, ◌^◌, min, ◌+ℤ◌, ◌*ℤ◌, pos, unsigned_abs, [], ◌∷◌, length, Err, IfOk, IfSome, OnOk, MatchOption};
 ghost use Rattle.std.specs.FinMap.{empty};
 ghost use Rattle.std.specs.Vec.{vec_capacity};
 ghost use Rattle.rr_io.specs.Stream.{HasFailed, KeepsFailures, WritesFront, WritesWhole};
@@ -100,10 +100,12 @@ fn value_at<A: Cells>(
     Ok((value, near))
 }
 
-/// A text with room for as many rows, of the longest records behind what each begins with.
+/// An empty text with room for as many rows, of the longest records behind what each begins with,
+/// and no more.
 fn text_for(alloc: Global, front: &[u8], rows: u32) -> Result<Vec<u8>, AllocError>
     ensures empty { IfOk result (λ text. text.items ≡ []) }
-    ensures room { IfOk result (λ text. vec_capacity text ≤ (length front.now + MAX_REST) * rows) }
+    ensures room { IfOk result (λ text. vec_capacity text
+        ≡ min ((length front.now + MAX_REST) * rows) (2 ^ 64 - 1)) }
 {
     let room = (front.len() + MAX_REST).saturating_mul(rows as usize);
     Vec::with_capacity(alloc, room)
