@@ -1,5 +1,5 @@
 -- Sessions that any two sides can have.
-use Rattle.std.proofs.Common.{inl, inr, ℕ, ◌+◌, length, List, [], refl, sym, subst, Some, arith}
+use Rattle.std.proofs.Common.{inl, inr, ℕ, ◌+◌, ◌≤◌, length, List, [], refl, sym, subst, Some, arith}
 use Rattle.std.specs.List.{All, AllByRecursion, concat}
 use Rattle.std.specs.FinMap.{entries, entries_sorted, is_sorted}
 use Rattle.std.proofs.lemmas.List.{append-nil}
@@ -64,8 +64,14 @@ module _ (s : Layout) (had given : Cells) (is : IsLayout s) (each : All (IsCellO
   abbrev sent : List (List ℕ)
   sent = frames_of_names s names
 
+  abbrev pages : List (List ℕ)
+  pages = reply s (lacking given had)
+
   abbrev limit : ℕ
-  limit = length sent
+  limit = length sent + length pages
+
+  few : length pages ≤ limit
+  few = omega arith
 
   abbrev last : Giver
   last = record { stage = Giving (s, lacking given had); sent = 0; taken = length sent; limit = limit }
@@ -80,9 +86,6 @@ module _ (s : Layout) (had given : Cells) (is : IsLayout s) (each : All (IsCellO
     giving = refl;
     fits = due;
   }
-
-  abbrev pages : List (List ℕ)
-  pages = reply s (lacking given had)
 
   pulled : (n : ℕ) → HasPulled s (waiting n 0 (length pages)) (Some (concat pages)) (Some []) (lacking given had)
   pulled n = record {
@@ -103,7 +106,7 @@ module _ (s : Layout) (had given : Cells) (is : IsLayout s) (each : All (IsCellO
     answer = concat pages;
     limit_given = limit;
     left_given = Some [];
-    gave = record { last = last; heard = heard; replied = refl };
+    gave = record { last = last; heard = heard; few = few; replied = refl };
     more = [];
     limit = length pages;
     left = Some [];
