@@ -7,3 +7,4 @@ pub mod Prepared
 pub mod Peers
 pub mod Halt
 pub mod Pace
+pub mod Faults

@@ -1,6 +1,7 @@
 //! Dials, by which peers are reached.
 
 ghost use Rattle.std.specs.Prelude.{◌≡◌, IfSome, None, false, true};
+ghost use Rattle.rr_host.specs.Faults.{is_without_fault};
 
 use rr_io::Counted;
 use std::io::{Read, Write};
@@ -40,4 +41,12 @@ pub trait Dial {
     fn take_back(&mut self, input: Counted<Self::Input>, output: Counted<Self::Output>)
         ensures { Grows (calls self.old) (calls self.new)
             (handed_back (stream_of Self.Input.remaining Self.Output.contents input output) ∷ []) };
+}
+
+/// Whether a peer did nothing wrong by what its streams count: no call failed, and it didn't end
+/// the input before that was handed back.
+pub fn is_without_fault<R, W>(input: &Counted<R>, output: &Counted<W>) -> bool
+    ensures { result ≡ is_without_fault input.now output.now }
+{
+    input.failures() == 0 && input.ends() == 0 && output.failures() == 0
 }

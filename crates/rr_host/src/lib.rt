@@ -27,7 +27,7 @@ mod prepared;
 mod visits;
 
 pub use clock::{Clock, Moments};
-pub use dial::Dial;
+pub use dial::{Dial, is_without_fault};
 pub use halt::Halt;
 pub use log::CallLog;
 pub use pace::Pace;

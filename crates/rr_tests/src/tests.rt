@@ -26,3 +26,4 @@ mod seats;
 mod server;
 mod signals;
 mod streams;
+mod synced;

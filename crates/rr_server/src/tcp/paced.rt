@@ -1,6 +1,6 @@
 //! Peers that are called by turns.
 
-use rr_host::{Dial, Pace};
+use rr_host::{Dial, Pace, is_without_fault};
 use rr_io::Counted;
 use std::alloc::{AllocError, Global};
 use std::time::{Clock, Instant};
@@ -114,7 +114,7 @@ impl<R: Clock, D: Dial> Dial for PacedDial<'_, R, D> {
         ensures { Grows None None (handed_back
             (stream_of D.Input.remaining D.Output.contents input output) ∷ []) }
     {
-        let has_failed = input.failures() != 0 || input.ends() != 0 || output.failures() != 0;
+        let has_failed = !is_without_fault(&input, &output);
         self.dial.take_back(input, output);
         self.note(self.reached, has_failed);
         self.reached = None;

@@ -1,5 +1,6 @@
 //! Snapshots in a file.
 
+use super::synced::{DiskCalls, NotedFiles};
 use rr_node::{Opening, Shelf};
 use rr_server::{FileShelf, SaveNews, Saved};
 use rr_snapshot::SaveFault;
@@ -35,6 +36,20 @@ fn a_cut_snapshot_leaves_the_last_one(rt: HostRuntime) -> Result<(), Fail> {
     fs::remove_file(&rt, "shelf.snapshot")?;
     assert!(rt; (whole, cut, beside) == (Some(()), Some(()), false));
     assert!(rt; left.as_slice() == b"whole".as_slice());
+    Ok(())
+}
+
+#[test]
+fn a_snapshot_is_on_the_disk_before_it_has_its_name(rt: HostRuntime) -> Result<(), Fail> {
+    let calls = DiskCalls::new();
+    let files = NotedFiles {
+        host: &rt,
+        calls: &calls,
+    };
+    let put = put_back(&files, "synced.snapshot", b"whole", true);
+    fs::remove_file(&rt, "synced.snapshot")?;
+    // The file, its name, and then the folder.
+    assert!(rt; (put, calls.digits()) == (Some(()), 121));
     Ok(())
 }
 
