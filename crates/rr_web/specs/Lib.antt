@@ -4,5 +4,6 @@ pub mod Precision
 pub mod Reply
 pub mod Fetches
 pub mod Json
+pub mod Unquoted
 pub mod Answers
 pub mod Series

@@ -19,6 +19,7 @@ mod answers;
 mod ask;
 mod fetches;
 mod json;
+pub mod laws;
 mod page;
 mod precision;
 mod query;
