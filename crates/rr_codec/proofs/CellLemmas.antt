@@ -55,7 +55,8 @@ cells_again k (e ∷ es) rest known typed =
     rw (
       append_assoc (cell_text k e) (cells_text (next_known k e) es) rest,
       cell_again k e (cells_text (next_known k e) es ++ rest) known first,
-      cells_again (next_known k e) es rest (known_on k (fields_of e) known (fields_wide e first)) (All-tail IsTyped e es typed),
+      cells_again (next_known k e) es rest (known_on k (fields_of e) known (fields_wide e first))
+          (All-tail IsTyped e es typed),
     ) refl
 
 pub packed_again : (span : ℕ) (es : List SlotEntry) (rest : List ℕ) → span < 2 ^ 128 → length es < 2 ^ 32

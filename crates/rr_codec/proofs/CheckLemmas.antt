@@ -53,7 +53,8 @@ module _ (s : Layout) (archive : ℕ) where
   behind_first e (Ok x) = refl
   behind_first e (Err f) = refl
 
-  pub goes_on : (before : Option SlotEntry) (k after : KnownState) (e : SlotEntry) (n i : ℕ) (bytes rest : List ℕ) → i < n
+  pub goes_on : (before : Option SlotEntry) (k after : KnownState) (e : SlotEntry) (n i : ℕ) (bytes rest : List ℕ)
+      → i < n
       → checked_at s archive before k bytes ≡ Ok ((e, after), rest)
       → rest_of (cells_checked s archive (Some e) after (n - (i + 1)) rest)
       ≡ rest_of (cells_checked s archive before k (n - i) bytes)
@@ -86,7 +87,8 @@ module _ (s : Layout) (archive : ℕ) where
       → read_len (cells_checked s archive before k n bytes) ≡ Ok n
   unfolding cells_checked
   lens zero before k bytes e = refl
-  lens (suc n) before k bytes {rest} e = by (checked_at s archive before k bytes) e (λ before k bytes e. lens n before k bytes e)
+  lens (suc n) before k bytes {rest} e =
+      by (checked_at s archive before k bytes) e (λ before k bytes e. lens n before k bytes e)
     where
       by : (r : FirstRead) → rest_of (with_first n r) ≡ Ok rest
           → ((before : Option SlotEntry) (k : KnownState) (bytes : List ℕ)
@@ -120,7 +122,8 @@ module _ (s : Layout) (archive : ℕ) where
     pub cells_faulty : (f : CodecFault) → rest_of read ≡ Err f → checked_count s archive bytes ≡ Err f
     cells_faulty f e = all_of ∙ fault_of read f e
 
-    trailing_of : (r : Read) (rest : List ℕ) → rest_of r ≡ Ok rest → (length rest ≡ 0 → ⊥) → counted r ≡ Err TrailingBytes
+    trailing_of : (r : Read) (rest : List ℕ) → rest_of r ≡ Ok rest → (length rest ≡ 0 → ⊥)
+        → counted r ≡ Err TrailingBytes
     trailing_of (Ok x) rest e some =
         let same : x.1 ≡ rest = cc in
         let not_none : (length x.1 == 0) ≡ false = rw same (grind (arith, nat_tests)) in
@@ -158,13 +161,15 @@ module _ (s : Layout) (archive : ℕ) where
       with_then (cells_checked s archive (Some first.0.0) first.0.1 n first.1) _ (es, rest) e1 (λ others others_are e2.
       with_then (cell_at k bytes) _ first first_is (λ cell cell_is e3.
       with_then (cell_checked s archive before cell.0.0) _ first e3 (λ checked checked_is e4.
-      let valid = unless_ok BadContribution (not (is_valid s archive cell.0.0.0 cell.0.0.1.contribution)) _ checked checked_is in
+      let valid = unless_ok BadContribution (not (is_valid s archive cell.0.0.0 cell.0.0.1.contribution)) _ checked
+          checked_is in
       let behind = unless_ok OutOfOrder (not (is_behind before cell.0.0)) _ checked valid.1 in
       let same_cell : cell.0.0 ≡ checked = done_same cell.0.0 checked behind.1 in
       let same_first : ((cell.0.0, cell.0.1), cell.1) ≡ first =
       ap (λ (c : SlotEntry). ((c, cell.0.1), cell.1)) same_cell ∙ done_same ((checked, cell.0.1), cell.1) first e4 in
       let later = taken n (Some first.0.0) first.0.1 first.1 others.0 others.1 others_are in
-      let first_read : cell_at k bytes ≡ done first = cell_is ∙ ap (λ (x : (SlotEntry × KnownState) × List ℕ). done x) same_first in
+      let first_read : cell_at k bytes ≡ done first =
+          cell_is ∙ ap (λ (x : (SlotEntry × KnownState) × List ℕ). done x) same_first in
       let own : IsTrue (is_valid s archive first.0.0.0 first.0.0.1.contribution) × IsTrue (is_behind before first.0.0) =
       subst (λ (x : (SlotEntry × KnownState) × List ℕ). IsTrue (is_valid s archive x.0.0.0 x.0.0.1.contribution)
       × IsTrue (is_behind before x.0.0)) same_first (is_true _ valid.0, is_true _ behind.0) in
@@ -180,9 +185,11 @@ module _ (s : Layout) (archive : ℕ) where
   unfolding packed_at
   are_taken bytes es e =
       with_then (head_at bytes) _ es e (λ head head_is e1.
-      with_then (cells_checked s archive None (nothing_known head.0.1) head.0.0 head.1) alone es e1 (λ cells cells_are e2.
+      with_then (cells_checked s archive None (nothing_known head.0.1) head.0.0 head.1) alone es e1
+          (λ cells cells_are e2.
       let is = taken head.0.0 None (nothing_known head.0.1) head.1 cells.0 cells.1 cells_are in
-      let same : cells.0 ≡ es = done_same cells.0 es (unless_ok TrailingBytes (not (length cells.1 == 0)) _ es e2).1 in (
+      let same : cells.0 ≡ es = done_same cells.0 es
+          (unless_ok TrailingBytes (not (length cells.1 == 0)) _ es e2).1 in (
         rw (head_is, is.read) e2,
         subst (λ (x : List SlotEntry). AreChecked s archive None x) same is.checked,
       )))

@@ -221,7 +221,8 @@ short_steps k e near typed =
     let own_wide = fields_wide e typed in
     record {
       place = step_len 1 _ (omega arith) (place_step k.place place near.known.place (place_most k f.origin near.known));
-      slot = ten (plus b.cell.slot 1) f.slot (omega arith) own_wide.slot (plus_one b.cell.slot cell.slot) (nearer f.slot own.slot);
+      slot = ten (plus b.cell.slot 1) f.slot (omega arith) own_wide.slot (plus_one b.cell.slot cell.slot)
+          (nearer f.slot own.slot);
       origin = step_len 3 _ (omega arith) (small_step b.cell.origin f.origin cell.origin own.origin);
       version = ten (plus b.cell.version b.stride) f.version (omega arith) own_wide.version
           (plus_stride b.cell.version b.stride cell.version before.stride before.stride_wide)
@@ -229,10 +230,12 @@ short_steps k e near typed =
       count = ten b.cell.count f.count wide.count own_wide.count (small_near b.cell.count cell.count)
           (small_near f.count own.count);
       min = ten (plus f.last_value (apart b.cell.min b.cell.last_value)) f.min (omega arith) own_wide.min
-          (plus_apart f.last_value b.cell.min b.cell.last_value own_wide.last_value wide.min wide.last_value own.last_value
+          (plus_apart f.last_value b.cell.min b.cell.last_value own_wide.last_value wide.min wide.last_value
+              own.last_value
           cell.min cell.last_value) (nearer f.min own.min);
       max = ten (plus f.last_value (apart b.cell.max b.cell.last_value)) f.max (omega arith) own_wide.max
-          (plus_apart f.last_value b.cell.max b.cell.last_value own_wide.last_value wide.max wide.last_value own.last_value
+          (plus_apart f.last_value b.cell.max b.cell.last_value own_wide.last_value wide.max wide.last_value
+              own.last_value
           cell.max cell.last_value) (nearer f.max own.max);
       last_value = ten b.cell.last_value f.last_value wide.last_value own_wide.last_value
           (nearer b.cell.last_value cell.last_value) (nearer f.last_value own.last_value);
@@ -257,7 +260,8 @@ steps_len s short =
     let l8 = two (step_text f.last_time) _ 19 82 (step_most f.last_time) l7 in
     let l9 = two (step_text f.version) _ 10 101 short.version l8 in
     let l10 = two (step_text f.last_value) _ 10 111 short.last_value l9 in
-    two (number_text (flags_of s)) _ 2 121 (number_len 19 2 (flags_of s) (omega arith) (omega (arith, flags_below s))) l10
+    two (number_text (flags_of s)) _ 2 121 (number_len 19 2 (flags_of s) (omega arith) (omega (arith, flags_below s)))
+        l10
 
 cells_len : (k : KnownState) (es : List SlotEntry) → AreAllNear k → All IsTyped es
     → length (cells_text k es) ≤ 123 * length es

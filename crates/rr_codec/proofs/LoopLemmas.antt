@@ -67,7 +67,8 @@ regroup : (front : List SlotEntry) (e : SlotEntry) (read : Read)
 regroup front e (Ok x) = ap (λ (es : List SlotEntry). Ok (es, x.1)) (simp append_assoc)
 regroup front e (Err f) = refl
 
-pub front_goes_on : (k after : KnownState) (front : List SlotEntry) (e : SlotEntry) (n i : ℕ) (bytes rest : List ℕ) → i < n
+pub front_goes_on : (k after : KnownState) (front : List SlotEntry) (e : SlotEntry) (n i : ℕ) (bytes rest : List ℕ)
+    → i < n
     → cell_at k bytes ≡ Ok ((e, after), rest)
     → with_front (front ++ e ∷ []) (cells_at after (n - (i + 1)) rest) ≡ with_front front (cells_at k (n - i) bytes)
 front_goes_on k after front e n i bytes rest lt read =
@@ -111,7 +112,8 @@ module _ (bytes cells : List ℕ) (count span : ℕ) (head : head_at bytes ≡ O
   pub cells_faulty : (f : CodecFault) → rest_of read ≡ Err f → cells_of bytes ≡ Err f
   cells_faulty f e = all_of ∙ fault_of read f e
 
-  trailing_of : (r : Read) (rest : List ℕ) → rest_of r ≡ Ok rest → (length rest ≡ 0 → ⊥) → (r >>= alone) ≡ Err TrailingBytes
+  trailing_of : (r : Read) (rest : List ℕ) → rest_of r ≡ Ok rest → (length rest ≡ 0 → ⊥)
+      → (r >>= alone) ≡ Err TrailingBytes
   trailing_of (Ok x) rest e some =
       let same : x.1 ≡ rest = cc in
       let not_none : (length x.1 == 0) ≡ false = rw same (grind (arith, nat_tests)) in
@@ -159,7 +161,8 @@ with_it : (e : SlotEntry) (r : Read) → cells_left (r >>= λ others. Ok (e ∷ 
 with_it e (Ok x) = refl
 with_it e (Err f) = refl
 
-first_of : (k : KnownState) (n : ℕ) (bytes : List ℕ) → (n ≡ 0 → ⊥) → cells_at k n bytes ≡ with_first (n - 1) (cell_at k bytes)
+first_of : (k : KnownState) (n : ℕ) (bytes : List ℕ) → (n ≡ 0 → ⊥)
+    → cells_at k n bytes ≡ with_first (n - 1) (cell_at k bytes)
 unfolding cells_at
 first_of k zero bytes some = absurd (some refl)
 first_of k (suc n) bytes some = let one : suc n - 1 ≡ n = omega arith in rw one refl

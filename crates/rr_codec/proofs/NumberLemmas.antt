@@ -81,7 +81,8 @@ one_more (suc most) b bytes bs some is ge =
     let k : suc most - 1 ≡ most = omega arith in
     rw (is, e, k) refl
 
-pub high_fault : (b : ℕ) (read : Result (ℕ × List ℕ) CodecFault) (f : CodecFault) → read ≡ Err f → with_low b read ≡ Err f
+pub high_fault : (b : ℕ) (read : Result (ℕ × List ℕ) CodecFault) (f : CodecFault) → read ≡ Err f
+    → with_low b read ≡ Err f
 high_fault b read f e = ap (with_low b) e
 
 pub bad_high : (b high : ℕ) (bs : List ℕ) (read : Result (ℕ × List ℕ) CodecFault) → read ≡ Ok (high, bs)

@@ -13,7 +13,7 @@ use Rattle.std.proofs.Math.ListN.{drop_of_length-le}
 use Rattle.rr_codec.specs.declared.expecting.Before.{Before}
 use Rattle.rr_codec.specs.declared.fields.Fields.{Fields}
 use Rattle.rr_codec.specs.declared.fault.CodecFault.TheVariants.{BadNumber}
-use Rattle.rr_codec.specs.Expecting.{after}
+use Rattle.rr_codec.specs.Expecting.{after, fields_from}
 use Rattle.rr_codec.specs.Recent.{KnownState, before_at, fields_at, is_of, known_after, nothing_known, others, place_of}
 use Rattle.rr_codec.proofs.StepsLemmas.{AreWide}
 use Rattle.rr_codec.proofs.ExpectingLemmas.{start_wide}
@@ -33,7 +33,7 @@ place_is recent origin =
 pub too_far : (k : KnownState) (place : ℕ) (steps : Fields) → length k.recent ≤ 16 → 2 ^ 64 ≤ place
     → fields_at k place steps ≡ Err BadNumber
 too_far k place steps few far =
-    let cell = Rattle.rr_codec.specs.Expecting.fields_from k.span (Rattle.rr_codec.specs.Recent.before_at k.recent place) steps in
+    let cell = fields_from k.span (before_at k.recent place) steps in
     let le = place_le k.recent cell.origin in
     let not_there : (place_of k.recent cell.origin == place) ≡ false = grind (arith, nat_tests) in
     rw not_there refl
@@ -68,7 +68,8 @@ unfolding known_after after
 known_on k f known wide =
     let place = place_of k.recent f.origin in
     record {
-      each = All-cons (λ (b : Before). AreWide b.cell) _ _ wide (All-take (λ (b : Before). AreWide b.cell) 15 (remove k.recent place)
+      each = All-cons (λ (b : Before). AreWide b.cell) _ _ wide
+          (All-take (λ (b : Before). AreWide b.cell) 15 (remove k.recent place)
           (All-append (λ (b : Before). AreWide b.cell) (take place k.recent) (drop (suc place) k.recent)
           (All-take (λ (b : Before). AreWide b.cell) place k.recent known.each)
           (All-drop (λ (b : Before). AreWide b.cell) (suc place) k.recent known.each)));

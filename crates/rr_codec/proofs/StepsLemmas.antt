@@ -37,7 +37,8 @@ step_again step others rest fits = by_flag (step == 0) refl
         let none : step ≡ 0 = eqb-true _ _ e in
         let even : ((0 + 2 * others) % 2 == 0) ≡ true = grind (arith, nat_tests) in
         let half : (0 + 2 * others) / 2 ≡ others = omega arith in
-        rw (e, even) (ap (λ (n : ℕ). Ok (n, (0 + 2 * others) / 2, rest)) (sym none) ∙ ap (λ (n : ℕ). Ok (step, n, rest)) half)
+        rw (e, even) (ap (λ (n : ℕ). Ok (n, (0 + 2 * others) / 2, rest)) (sym none)
+            ∙ ap (λ (n : ℕ). Ok (step, n, rest)) half)
     by_flag false e =
         let odd : ((1 + 2 * others) % 2 == 0) ≡ false = grind (arith, nat_tests) in
         let half : (1 + 2 * others) / 2 ≡ others = omega arith in
@@ -106,8 +107,10 @@ read s rest wide =
     let f = s.fields in
     rw (
       flags_again s (last_value_on s rest),
-      step_again f.last_value (flagged f.version (flagged f.last_time (flagged f.min (from_max s)))) (version_on s rest) wide.fields.last_value,
-      step_again f.version (flagged f.last_time (flagged f.min (from_max s))) (step_text f.last_time ++ min_on s rest) wide.fields.version,
+      step_again f.last_value (flagged f.version (flagged f.last_time (flagged f.min (from_max s)))) (version_on s rest)
+          wide.fields.last_value,
+      step_again f.version (flagged f.last_time (flagged f.min (from_max s))) (step_text f.last_time ++ min_on s rest)
+          wide.fields.version,
       step_again f.last_time (flagged f.min (from_max s)) (min_on s rest) wide.fields.last_time,
       step_again f.min (from_max s) (step_text f.max ++ sum_on s rest) wide.fields.min,
       step_again f.max (flagged f.sum (from_count s)) (sum_on s rest) wide.fields.max,

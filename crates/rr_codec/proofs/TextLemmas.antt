@@ -33,7 +33,8 @@ then_ok (Ok x) next y e = (x, refl, e)
 then_ok (Err f) next y e = absurd cc
 
 -- a test that doesn't refuse
-pub unless_ok : {A : Type 0} (f : CodecFault) (refused : Bool) (r : Result A CodecFault) (y : A) → unless f refused r ≡ Ok y
+pub unless_ok : {A : Type 0} (f : CodecFault) (refused : Bool) (r : Result A CodecFault) (y : A)
+    → unless f refused r ≡ Ok y
     → (refused ≡ false) × (r ≡ Ok y)
 unless_ok f true r y e = absurd cc
 unless_ok f false r y e = (refl, e)
@@ -156,7 +157,8 @@ step_of flags step others rest bytes are e = by (flags % 2 == 0) refl e
         let kept = unless_ok BadNumber (number.0.0 == 0) _ some.0 number.2 in
         let n = done_same number.0 some.0 kept.1 in
         let same = done_same (some.0.0, flags / 2, some.0.1) (step, others, rest) some.2 in
-        let is = a_step flags number.0.0 number.0.1 bytes odd kept.0 (number_of 19 number.0.0 number.0.1 bytes are number.1) in
+        let is = a_step flags number.0.0 number.0.1 bytes odd kept.0
+            (number_of 19 number.0.0 number.0.1 bytes are number.1) in
         subst (λ (x : ℕ × ℕ × List ℕ). IsStepAt flags x.0 x.1 x.2 bytes) same
         (subst (λ (x : ℕ × List ℕ). IsStepAt flags x.0 (flags / 2) x.1 bytes) n is)
 
@@ -199,7 +201,8 @@ eleven_up f a b d g h i j k l m n few p1 p2 p3 p4 p5 p6 p7 p8 p9 p10 p11 = omega
 -- the first of some steps, and what the others come to
 with_step : {B P : Type 0} (flags : ℕ) (bytes : List ℕ) (next : ℕ × ℕ × List ℕ → Result B CodecFault) (y : B)
     → AreBytes bytes → (step_at flags bytes >>= next) ≡ done y
-    → ((step others : ℕ) (rest : List ℕ) → IsStepAt flags step others rest bytes → next (step, others, rest) ≡ done y → P)
+    → ((step others : ℕ) (rest : List ℕ) → IsStepAt flags step others rest bytes → next (step, others, rest) ≡ done y
+        → P)
     → P
 with_step flags bytes next y are e goes_on =
     let x = then_ok (step_at flags bytes) next y e in
@@ -213,7 +216,8 @@ with_flags bytes next y are e goes_on =
     goes_on x.0.0 x.0.1 (flags_of_bytes x.0.0 x.0.1 bytes are x.1) x.2
 
 -- the bytes of eleven steps, step by step
-together : (flags value version time least most total count mask slot place origin o1 o2 o3 o4 o5 o6 o7 o8 o9 o10 o11 : ℕ) (r0 r1 r2 r3 r4 r5 r6 r7 r8 r9 r10 r11 : List ℕ) (bytes : List ℕ)
+together : (flags value version time least most total count mask slot place origin : ℕ)
+    (o1 o2 o3 o4 o5 o6 o7 o8 o9 o10 o11 : ℕ) (r0 r1 r2 r3 r4 r5 r6 r7 r8 r9 r10 r11 : List ℕ) (bytes : List ℕ)
     → AreFlagsAt flags r0 bytes
     → IsStepAt flags value o1 r1 r0
     → IsStepAt o1 version o2 r2 r1
@@ -241,7 +245,8 @@ together : (flags value version time least most total count mask slot place orig
         mask = mask;
       };
     }) r11 bytes
-together flags value version time least most total count mask slot place origin o1 o2 o3 o4 o5 o6 o7 o8 o9 o10 o11 r0 r1 r2 r3 r4 r5 r6 r7 r8 r9 r10 r11 bytes head s1 s2 s3 s4 s5 s6 s7 s8 s9 s10 s11 =
+together flags value version time least most total count mask slot place origin o1 o2 o3 o4 o5 o6 o7 o8 o9 o10 o11 r0 r1
+    r2 r3 r4 r5 r6 r7 r8 r9 r10 r11 bytes head s1 s2 s3 s4 s5 s6 s7 s8 s9 s10 s11 =
     let steps : Steps = record {
       place = place;
       fields = record {
@@ -258,11 +263,33 @@ together flags value version time least most total count mask slot place origin 
       };
     } in
     let none : o11 ≡ 0 = eleven_up flags o1 o2 o3 o4 o5 o6 o7 o8 o9 o10 o11 head.few
-    (step_ge s1) (step_ge s2) (step_ge s3) (step_ge s4) (step_ge s5) (step_ge s6) (step_ge s7) (step_ge s8) (step_ge s9) (step_ge s10) (step_ge s11) in
-    let same : flags ≡ flags_of steps = s1.flags_are ∙ ap (flagged value) (s2.flags_are ∙ ap (flagged version) (s3.flags_are ∙ ap (flagged time) (s4.flags_are ∙ ap (flagged least) (s5.flags_are ∙ ap (flagged most) (s6.flags_are ∙ ap (flagged total) (s7.flags_are ∙ ap (flagged count) (s8.flags_are ∙ ap (flagged mask) (s9.flags_are ∙ ap (flagged slot) (s10.flags_are ∙ ap (flagged place) (s11.flags_are ∙ ap (flagged origin) none)))))))))) in
-    let left : r0 ≡ last_value_on steps r11 = s1.text ∙ ap (λ (t : List ℕ). step_text value ++ t) (s2.text ∙ ap (λ (t : List ℕ). step_text version ++ t) (s3.text ∙ ap (λ (t : List ℕ). step_text time ++ t) (s4.text ∙ ap (λ (t : List ℕ). step_text least ++ t) (s5.text ∙ ap (λ (t : List ℕ). step_text most ++ t) (s6.text ∙ ap (λ (t : List ℕ). step_text total ++ t) (s7.text ∙ ap (λ (t : List ℕ). step_text count ++ t) (s8.text ∙ ap (λ (t : List ℕ). step_text mask ++ t) (s9.text ∙ ap (λ (t : List ℕ). step_text slot ++ t) (s10.text ∙ ap (λ (t : List ℕ). step_text place ++ t) (s11.text)))))))))) in
+    (step_ge s1) (step_ge s2) (step_ge s3) (step_ge s4) (step_ge s5) (step_ge s6) (step_ge s7) (step_ge s8) (step_ge s9)
+        (step_ge s10) (step_ge s11) in
+    let same : flags ≡ flags_of steps =
+        s1.flags_are ∙ ap (flagged value)
+        (s2.flags_are ∙ ap (flagged version)
+        (s3.flags_are ∙ ap (flagged time)
+        (s4.flags_are ∙ ap (flagged least)
+        (s5.flags_are ∙ ap (flagged most)
+        (s6.flags_are ∙ ap (flagged total)
+        (s7.flags_are ∙ ap (flagged count)
+        (s8.flags_are ∙ ap (flagged mask)
+        (s9.flags_are ∙ ap (flagged slot)
+        (s10.flags_are ∙ ap (flagged place) (s11.flags_are ∙ ap (flagged origin) none)))))))))) in
+    let left : r0 ≡ last_value_on steps r11 =
+        s1.text ∙ ap (λ (t : List ℕ). step_text value ++ t)
+        (s2.text ∙ ap (λ (t : List ℕ). step_text version ++ t)
+        (s3.text ∙ ap (λ (t : List ℕ). step_text time ++ t)
+        (s4.text ∙ ap (λ (t : List ℕ). step_text least ++ t)
+        (s5.text ∙ ap (λ (t : List ℕ). step_text most ++ t)
+        (s6.text ∙ ap (λ (t : List ℕ). step_text total ++ t)
+        (s7.text ∙ ap (λ (t : List ℕ). step_text count ++ t)
+        (s8.text ∙ ap (λ (t : List ℕ). step_text mask ++ t)
+        (s9.text ∙ ap (λ (t : List ℕ). step_text slot ++ t)
+        (s10.text ∙ ap (λ (t : List ℕ). step_text place ++ t) (s11.text)))))))))) in
     record {
-      text = head.text ∙ ap (λ (x : ℕ). number_text x ++ r0) same ∙ ap (λ (t : List ℕ). number_text (flags_of steps) ++ t) left
+      text = head.text ∙ ap (λ (x : ℕ). number_text x ++ r0) same
+          ∙ ap (λ (t : List ℕ). number_text (flags_of steps) ++ t) left
           ∙ sym (regrouped steps r11);
       wide = record {
         place = s10.fits;
@@ -316,7 +343,8 @@ steps_of s rest bytes are e =
       },
       r11,
     ) (s, rest) e11)
-    (together flags value version time least most total count mask slot place origin o1 o2 o3 o4 o5 o6 o7 o8 o9 o10 o11 r0 r1 r2 r3 r4 r5 r6 r7 r8 r9 r10 r11 bytes head s1 s2 s3 s4 s5 s6 s7 s8 s9 s10 s11)))))))))))))
+    (together flags value version time least most total count mask slot place origin o1 o2 o3 o4 o5 o6 o7 o8 o9 o10 o11
+        r0 r1 r2 r3 r4 r5 r6 r7 r8 r9 r10 r11 bytes head s1 s2 s3 s4 s5 s6 s7 s8 s9 s10 s11)))))))))))))
 
 -- ---- cells
 
@@ -330,7 +358,8 @@ back_to : (expected difference : ℕ) → expected < 2 ^ 128 → difference < 2 
     → ((expected + difference) % 2 ^ 128 + (2 ^ 128 - expected)) % 2 ^ 128 ≡ difference
 back_to expected difference p q = omega arith
 
-step_back : (expected step : ℕ) → expected < 2 ^ 128 → step < 2 ^ 128 → step_to expected (step_from expected step) ≡ step
+step_back : (expected step : ℕ) → expected < 2 ^ 128 → step < 2 ^ 128
+    → step_to expected (step_from expected step) ≡ step
 unfolding step_to step_from
 step_back expected step p q =
     ap zigzag (back_to expected (unzigzag step) p (unzigzag_wide step q)) ∙ zigzag_back step q
@@ -396,13 +425,15 @@ known_back k steps f known wide e =
     let kept = unless_ok BadNumber (not (place_of k.recent cell.origin == place)) _ f e in
     let right : place_of k.recent cell.origin ≡ place = eqb-true _ _ (no_not _ kept.0) in
     let step = step_back k.place steps.place (omega (arith, known.place)) wide.place in
-    let back = fields_back k.span (before_at k.recent place) steps.fields (before_wide k.recent place known.each) wide.fields in
+    let back = fields_back k.span (before_at k.recent place) steps.fields (before_wide k.recent place known.each)
+        wide.fields in
     subst (λ (x : Fields). LeadsTo k steps x) (done_same cell f kept.1) (record {
       steps_are = rw (right, step, back) refl;
       wide = from_wide k.span (before_at k.recent place) steps.fields;
     })
 
-pub with_then : {A B P : Type 0} (r : Result A CodecFault) (next : A → Result B CodecFault) (y : B) → (r >>= next) ≡ done y
+pub with_then : {A B P : Type 0} (r : Result A CodecFault) (next : A → Result B CodecFault) (y : B)
+    → (r >>= next) ≡ done y
     → ((x : A) → r ≡ done x → next x ≡ done y → P) → P
 with_then r next y e goes_on = let x = then_ok r next y e in goes_on x.0 x.1 x.2
 
@@ -466,7 +497,8 @@ pub record IsCellAt (k : KnownState) (e : SlotEntry) (after : KnownState) (rest 
   pub known : AreKnown after
   pub are_bytes : AreBytes rest
 
-cell_of_bytes : (k : KnownState) (e : SlotEntry) (after : KnownState) (rest bytes : List ℕ) → AreKnown k → AreBytes bytes
+cell_of_bytes : (k : KnownState) (e : SlotEntry) (after : KnownState) (rest bytes : List ℕ) → AreKnown k
+    → AreBytes bytes
     → cell_at k bytes ≡ done ((e, after), rest) → IsCellAt k e after rest bytes
 unfolding cell_at
 cell_of_bytes k e after rest bytes known are read =
@@ -517,12 +549,14 @@ packed_of_bytes bytes es rest are read =
     let same = done_same ((within, span.0), span.1) head e4 in
     let cells : cells_at (nothing_known span.0) within span.1 ≡ done (es, rest) =
     subst (λ (x : (ℕ × ℕ) × List ℕ). cells_at (nothing_known x.0.1) x.0.0 x.1 ≡ done (es, rest)) (sym same) e1 in
-    let left = cells_of_bytes within (nothing_known span.0) es rest span.1 (nothing_is_known span.0) span_at.are_bytes cells in
+    let left = cells_of_bytes within (nothing_known span.0) es rest span.1 (nothing_is_known span.0) span_at.are_bytes
+        cells in
     let len : count.0 ≡ length es = sym (below_back (2 ^ 32) count.0 within within_is) ∙ sym left.0 in
     let text = cells_text (nothing_known span.0) es in (
       span.0,
       count_at.text ∙ ap (λ (n : ℕ). number_text n ++ count.1) len
-          ∙ ap (λ (t : List ℕ). number_text (length es) ++ t) (span_at.text ∙ ap (λ (t : List ℕ). number_text span.0 ++ t) left.1)
+          ∙ ap (λ (t : List ℕ). number_text (length es) ++ t)
+              (span_at.text ∙ ap (λ (t : List ℕ). number_text span.0 ++ t) left.1)
           ∙ ap (λ (t : List ℕ). number_text (length es) ++ t) (sym (append_assoc (number_text span.0) text rest))
           ∙ sym (append_assoc (number_text (length es)) (number_text span.0 ++ text) rest),
     )))))

@@ -7,7 +7,8 @@ pub returns-in_err-count : goal.returns-in_err-count
 returns-in_err-count c =
     let p = err_from_is_err_and c.from_residual.result c.from_residual.ensures.1 in
     rw (p.1, p.2) (record {
-      read = head_faulty c.args.schema.now c.args.archive c.args.bytes.now c.in_err-count.field-0.0 c.in_err-count.ensures.read;
+      read = head_faulty c.args.schema.now c.args.archive c.args.bytes.now c.in_err-count.field-0.0
+          c.in_err-count.ensures.read;
       no_memory = search (rules, c.in_err-count.ensures.no_memory);
     })
 

@@ -17,10 +17,12 @@ loop-cell-preserved c =
     let item : get_or cells i cell ≡ cell = search rules in
     let left = cells_text (next_known k cell) (drop (i + 1) cells) in
     record {
-      added = ap (λ (n : KnownState). c.push_cell.new.bytes.items ++ cells_text n (drop (i + 1) cells)) c.in_ok-push_cell.ensures.next
+      added = ap (λ (n : KnownState). c.push_cell.new.bytes.items ++ cells_text n (drop (i + 1) cells))
+          c.in_ok-push_cell.ensures.next
           ∙ ap (λ (l : List ℕ). l ++ left) c.in_ok-push_cell.ensures.added
           ∙ append_assoc c.loop-cell.bytes.items (cell_text k cell) left
-          ∙ ap (λ (l : List ℕ). c.loop-cell.bytes.items ++ l) (sym (texts_more k cells i cell c.loop-cell-test.true item))
+          ∙ ap (λ (l : List ℕ). c.loop-cell.bytes.items ++ l)
+              (sym (texts_more k cells i cell c.loop-cell-test.true item))
           ∙ c.loop-cell.invariant.added;
       typed = rw (take_more cells i cell c.loop-cell-test.true, item)
           (All-push IsTyped (take i cells) cell c.loop-cell.invariant.typed c.in_ok-push_cell.ensures.typed);
@@ -38,5 +40,6 @@ returns c =
     let typed : All IsTyped cells = rw (take_all i cells c.loop-cell-test.false) at c.loop-cell.invariant.typed in
     record {
       text = (span, c.guessed_span-span.ensures, text);
-      size = subst (λ (l : List ℕ). length l ≤ 24 + 123 * length cells) (sym text) (packed_len span cells c.requires typed);
+      size = subst (λ (l : List ℕ). length l ≤ 24 + 123 * length cells) (sym text)
+          (packed_len span cells c.requires typed);
     }

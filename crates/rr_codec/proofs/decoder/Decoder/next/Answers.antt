@@ -7,7 +7,8 @@ use Rattle.rr_codec.proofs.decoder.Decoder.next.Goals as goal
 pub returns-then-self-eq0 : goal.returns-then-self-eq0
 returns-then-self-eq0 c =
     let d = c.self.inside in
-    (ap (λ (l : LeftState). l.cells) (sym c.self.view_is) ∙ walk_ends d.known d.left d.rest.now c.if-self-eq0.true, refl)
+    (ap (λ (l : LeftState). l.cells) (sym c.self.view_is)
+        ∙ walk_ends d.known d.left d.rest.now c.if-self-eq0.true, refl)
 
 pub returns-in-Ok : goal.returns-in-Ok
 returns-in-Ok c =
