@@ -1,24 +1,20 @@
 -- Cells that were written are read again, whatever follows them.
-use Rattle.std.proofs.Common.{◌≡◌, ℕ, zero, suc, ◌+◌, ◌^◌, ◌<◌, ◌≤◌, true, List, [], ◌∷◌, ◌++◌, length, get_or, take, drop, Ok, All, refl, ap, ◌∙◌, append_assoc, arith}
+use Rattle.std.proofs.Common.{◌≡◌, ℕ, suc, ◌+◌, ◌^◌, ◌<◌, true, List, [], ◌∷◌, ◌++◌, length, get_or, drop, Ok, All, refl, ap, ◌∙◌, append_assoc, arith}
 use Rattle.std.specs.Prelude.{◌==◌}
-use Rattle.std.specs.List.{remove}
 use Rattle.std.proofs.lemmas.Bool.Decides.{nat_tests}
-use Rattle.std.proofs.lemmas.List.Elements.{All-head, All-tail, All-cons}
+use Rattle.std.proofs.lemmas.List.Elements.{All-head, All-tail}
 use Rattle.std.proofs.Math.Seq.{drop-cons}
-use Rattle.rr_codec.specs.declared.expecting.Before.{Before}
 use Rattle.rr_codec.specs.declared.fields.Fields.{Fields}
 use Rattle.rr_codec.specs.Numbers.{number_text}
 use Rattle.rr_codec.specs.Fields.{SlotEntry, IsTyped, fields_of}
-use Rattle.rr_codec.specs.Steps.{step_to, step_from}
-use Rattle.rr_codec.specs.Expecting.{after, start}
-use Rattle.rr_codec.specs.Recent.{KnownState, before_at, known_after, known_fields, known_steps, nothing_known, others, place_of}
+use Rattle.rr_codec.specs.Recent.{KnownState, before_at, known_fields, known_steps, nothing_known, place_of}
 use Rattle.rr_codec.specs.Text.{cell_text, cells_text, next_known, packed_text}
 use Rattle.rr_codec.specs.Reading.{cell_at, cells_at, head_at, packed_at}
 use Rattle.rr_codec.proofs.NumberLemmas.{number_again}
 use Rattle.rr_codec.proofs.StepLemmas.{step_from-step_to, step_to-wide}
 use Rattle.rr_codec.proofs.StepsLemmas.{AreWide, AreWideSteps, steps_again}
 use Rattle.rr_codec.proofs.FieldsLemmas.{fields_wide, cell_of-fields_of, below_again}
-use Rattle.rr_codec.proofs.ExpectingLemmas.{steps_wide, fields_again, start_wide}
+use Rattle.rr_codec.proofs.ExpectingLemmas.{steps_wide, fields_again}
 use Rattle.rr_codec.proofs.RecentLemmas.{AreKnown, before_wide, known_on, nothing_is_known, place_most}
 
 pub known_wide : (k : KnownState) (f : Fields) → AreWideSteps (known_steps k f)

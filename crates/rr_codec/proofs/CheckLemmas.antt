@@ -12,7 +12,8 @@ use Rattle.rr_codec.specs.Reading.{alone, cell_at, cell_checked, cells_at, cells
 use Rattle.rr_contrib.specs.Validity.{is_valid}
 use Rattle.rr_codec.specs.Laws.{AreChecked}
 use Rattle.rr_codec.proofs.LoopLemmas.{Read, FirstRead}
-use Rattle.rr_codec.proofs.TextLemmas.{done, done_same, unless_ok, with_then}
+use Rattle.rr_codec.proofs.TextLemmas.{done, done_same, unless_ok}
+use Rattle.rr_codec.proofs.CellTextLemmas.{with_then}
 
 pub same_truth : {P : Type 0} (a b : Bool) → IsTrue a ↔ P → IsTrue b ↔ P → a ≡ b
 same_truth true true f g = refl
@@ -162,14 +163,14 @@ module _ (s : Layout) (archive : ℕ) where
       with_then (cell_at k bytes) _ first first_is (λ cell cell_is e3.
       with_then (cell_checked s archive before cell.0.0) _ first e3 (λ checked checked_is e4.
       let valid = unless_ok BadContribution (not (is_valid s archive cell.0.0.0 cell.0.0.1.contribution)) _ checked
-          checked_is in
+      checked_is in
       let behind = unless_ok OutOfOrder (not (is_behind before cell.0.0)) _ checked valid.1 in
       let same_cell : cell.0.0 ≡ checked = done_same cell.0.0 checked behind.1 in
       let same_first : ((cell.0.0, cell.0.1), cell.1) ≡ first =
       ap (λ (c : SlotEntry). ((c, cell.0.1), cell.1)) same_cell ∙ done_same ((checked, cell.0.1), cell.1) first e4 in
       let later = taken n (Some first.0.0) first.0.1 first.1 others.0 others.1 others_are in
       let first_read : cell_at k bytes ≡ done first =
-          cell_is ∙ ap (λ (x : (SlotEntry × KnownState) × List ℕ). done x) same_first in
+      cell_is ∙ ap (λ (x : (SlotEntry × KnownState) × List ℕ). done x) same_first in
       let own : IsTrue (is_valid s archive first.0.0.0 first.0.0.1.contribution) × IsTrue (is_behind before first.0.0) =
       subst (λ (x : (SlotEntry × KnownState) × List ℕ). IsTrue (is_valid s archive x.0.0.0 x.0.0.1.contribution)
       × IsTrue (is_behind before x.0.0)) same_first (is_true _ valid.0, is_true _ behind.0) in
@@ -186,10 +187,10 @@ module _ (s : Layout) (archive : ℕ) where
   are_taken bytes es e =
       with_then (head_at bytes) _ es e (λ head head_is e1.
       with_then (cells_checked s archive None (nothing_known head.0.1) head.0.0 head.1) alone es e1
-          (λ cells cells_are e2.
+      (λ cells cells_are e2.
       let is = taken head.0.0 None (nothing_known head.0.1) head.1 cells.0 cells.1 cells_are in
       let same : cells.0 ≡ es = done_same cells.0 es
-          (unless_ok TrailingBytes (not (length cells.1 == 0)) _ es e2).1 in (
+      (unless_ok TrailingBytes (not (length cells.1 == 0)) _ es e2).1 in (
         rw (head_is, is.read) e2,
         subst (λ (x : List SlotEntry). AreChecked s archive None x) same is.checked,
       )))

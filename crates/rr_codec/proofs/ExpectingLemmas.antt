@@ -34,9 +34,9 @@ fields_again span b f before wide =
     let min = step_from-step_to (plus f.last_value (apart b.cell.min b.cell.last_value)) f.min (omega arith) wide.min in
     let max = step_from-step_to (plus f.last_value (apart b.cell.max b.cell.last_value)) f.max (omega arith) wide.max in
     let time = step_from-step_to (plus b.cell.last_time (times (apart f.slot b.cell.slot) span)) f.last_time
-        (omega arith) wide.last_time in
+    (omega arith) wide.last_time in
     let sum = step_from-step_to (plus (times f.count f.min) (times f.count (apart f.max f.min) / 2)) f.sum (omega arith)
-        wide.sum in
+    wide.sum in
     rw (slot, origin, version, count, last_value, mask, min, max, time, sum) refl
 
 pub start_wide : AreWide start.cell

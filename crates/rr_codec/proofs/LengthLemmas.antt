@@ -12,10 +12,10 @@ use Rattle.rr_codec.specs.declared.expecting.Before.{Before}
 use Rattle.rr_codec.specs.declared.fields.Fields.{Fields}
 use Rattle.rr_codec.specs.declared.steps.Steps.{Steps}
 use Rattle.rr_codec.specs.Numbers.{number_text_within, number_text}
-use Rattle.rr_codec.specs.Steps.{flags_of, step_text, step_to, steps_text, zigzag}
+use Rattle.rr_codec.specs.Steps.{flags_of, step_text, step_to, steps_text}
 use Rattle.rr_codec.specs.Expecting.{after, apart, expected_max, expected_min, expected_version, plus, start, steps_to}
 use Rattle.rr_codec.specs.Fields.{SlotEntry, IsTyped, fields_of}
-use Rattle.rr_codec.specs.Recent.{KnownState, before_at, known_after, known_steps, nothing_known, others, place_of}
+use Rattle.rr_codec.specs.Recent.{KnownState, before_at, known_after, known_steps, nothing_known, place_of}
 use Rattle.rr_codec.specs.Text.{cell_text, cells_text, next_known, packed_text}
 use Rattle.rr_codec.proofs.NumberLemmas.{text_last, text_more, next_below, some_more}
 use Rattle.rr_codec.proofs.StepsLemmas.{AreWide, flags_below}
@@ -231,11 +231,11 @@ short_steps k e near typed =
           (small_near f.count own.count);
       min = ten (plus f.last_value (apart b.cell.min b.cell.last_value)) f.min (omega arith) own_wide.min
           (plus_apart f.last_value b.cell.min b.cell.last_value own_wide.last_value wide.min wide.last_value
-              own.last_value
+          own.last_value
           cell.min cell.last_value) (nearer f.min own.min);
       max = ten (plus f.last_value (apart b.cell.max b.cell.last_value)) f.max (omega arith) own_wide.max
           (plus_apart f.last_value b.cell.max b.cell.last_value own_wide.last_value wide.max wide.last_value
-              own.last_value
+          own.last_value
           cell.max cell.last_value) (nearer f.max own.max);
       last_value = ten b.cell.last_value f.last_value wide.last_value own_wide.last_value
           (nearer b.cell.last_value cell.last_value) (nearer f.last_value own.last_value);
@@ -261,7 +261,7 @@ steps_len s short =
     let l9 = two (step_text f.version) _ 10 101 short.version l8 in
     let l10 = two (step_text f.last_value) _ 10 111 short.last_value l9 in
     two (number_text (flags_of s)) _ 2 121 (number_len 19 2 (flags_of s) (omega arith) (omega (arith, flags_below s)))
-        l10
+    l10
 
 cells_len : (k : KnownState) (es : List SlotEntry) → AreAllNear k → All IsTyped es
     → length (cells_text k es) ≤ 123 * length es

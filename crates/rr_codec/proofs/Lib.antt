@@ -7,6 +7,7 @@ pub mod RecentLemmas
 pub mod CellLemmas
 pub mod LengthLemmas
 pub mod TextLemmas
+pub mod CellTextLemmas
 pub mod LoopLemmas
 pub mod CheckLemmas
 pub mod WriteLemmas

@@ -1,9 +1,8 @@
 -- The last cells of the origins that were seen last.
-use Rattle.std.proofs.Common.{◌≡◌, ℕ, zero, suc, ◌^◌, ◌<◌, ◌≤◌, ◌∷◌, ◌++◌, All, Bool, true, false, cond, List, [], length, take, drop, Some, None, Ok, Err, refl, sym, ap, ◌∙◌, arith}
+use Rattle.std.proofs.Common.{◌≡◌, ℕ, zero, suc, ◌^◌, ◌≤◌, ◌∷◌, All, false, cond, List, [], length, take, drop, Some, None, Err, refl, sym, ap, ◌∙◌, arith}
 use Rattle.std.specs.Prelude.{◌==◌, nat_lt}
 use Rattle.std.specs.Option.{unwrap_or}
-use Rattle.std.specs.List.{position_from, position_or_len, remove}
-use Rattle.std.proofs.lemmas.Bool.{lt-leb}
+use Rattle.std.specs.List.{position_from, remove}
 use Rattle.std.proofs.lemmas.Bool.Decides.{nat_tests}
 use Rattle.std.proofs.lemmas.List.{take_all, append-nil, length-take}
 use Rattle.std.proofs.lemmas.List.Elements.{All-nil, All-cons, All-head, All-tail, All-take, All-drop, All-append}
@@ -14,7 +13,7 @@ use Rattle.rr_codec.specs.declared.expecting.Before.{Before}
 use Rattle.rr_codec.specs.declared.fields.Fields.{Fields}
 use Rattle.rr_codec.specs.declared.fault.CodecFault.TheVariants.{BadNumber}
 use Rattle.rr_codec.specs.Expecting.{after, fields_from}
-use Rattle.rr_codec.specs.Recent.{KnownState, before_at, fields_at, is_of, known_after, nothing_known, others, place_of}
+use Rattle.rr_codec.specs.Recent.{KnownState, before_at, fields_at, is_of, known_after, nothing_known, place_of}
 use Rattle.rr_codec.proofs.StepsLemmas.{AreWide}
 use Rattle.rr_codec.proofs.ExpectingLemmas.{start_wide}
 

@@ -38,7 +38,7 @@ step_again step others rest fits = by_flag (step == 0) refl
         let even : ((0 + 2 * others) % 2 == 0) ≡ true = grind (arith, nat_tests) in
         let half : (0 + 2 * others) / 2 ≡ others = omega arith in
         rw (e, even) (ap (λ (n : ℕ). Ok (n, (0 + 2 * others) / 2, rest)) (sym none)
-            ∙ ap (λ (n : ℕ). Ok (step, n, rest)) half)
+        ∙ ap (λ (n : ℕ). Ok (step, n, rest)) half)
     by_flag false e =
         let odd : ((1 + 2 * others) % 2 == 0) ≡ false = grind (arith, nat_tests) in
         let half : (1 + 2 * others) / 2 ≡ others = omega arith in

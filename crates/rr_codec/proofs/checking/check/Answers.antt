@@ -1,4 +1,4 @@
-use Rattle.std.proofs.Common.{◌≡◌, ℕ, List, Ok, ◌∙◌, ap, sym, rules}
+use Rattle.std.proofs.Common.{ℕ, List, Ok, ◌∙◌, ap, rules}
 use Rattle.std.proofs.lemmas.Result.{err_from_is_err_and}
 use Rattle.rr_codec.proofs.CheckLemmas.{head_faulty, cells_faulty, trailing, good, none_of}
 use Rattle.rr_codec.proofs.checking.check.Goals as goal

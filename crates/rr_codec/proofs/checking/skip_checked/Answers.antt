@@ -1,4 +1,4 @@
-use Rattle.std.proofs.Common.{◌≡◌, sym, ◌∙◌, rules}
+use Rattle.std.proofs.Common.{sym, ◌∙◌, rules}
 use Rattle.rr_codec.proofs.CheckLemmas.{goes_on, ends, rest_is}
 use Rattle.rr_codec.proofs.checking.skip_checked.Goals as goal
 

@@ -16,7 +16,7 @@ loop-init c =
     let read = cells_at c.args.known.now c.args.count c.args.bytes.now in
     let all : c.args.count - 0 ≡ c.args.count = omega arith in
     ap (λ (es : List SlotEntry). with_front es (cells_at c.args.known.now (c.args.count - 0) c.args.bytes.now))
-        c.in_ok-cells.ensures.items
+    c.in_ok-cells.ensures.items
     ∙ ap (λ (n : ℕ). with_front [] (cells_at c.args.known.now n c.args.bytes.now)) all
     ∙ with_nothing read
 
@@ -25,7 +25,7 @@ loop-preserved c =
     let cell : SlotEntry = c.in-Ok.cell in
     let items : c.push.new.self.items ≡ c.loop.cells.items ++ cell ∷ [] = search (rules, c.in_ok-push.ensures.items) in
     ap (λ (es : List SlotEntry). with_front es
-        (cells_at c.cell_at.new.known (c.args.count - (c.loop.counter + 1)) c.in-Ok.after.now)) items
+    (cells_at c.cell_at.new.known (c.args.count - (c.loop.counter + 1)) c.in-Ok.after.now)) items
     ∙ front_goes_on c.loop.known c.cell_at.new.known c.loop.cells.items cell c.args.count c.loop.counter c.loop.rest.now
     c.in-Ok.after.now c.loop-test.true c.in-Ok.ensures.read.read
     ∙ c.loop.invariant

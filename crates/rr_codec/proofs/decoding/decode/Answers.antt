@@ -1,8 +1,7 @@
-use Rattle.std.proofs.Common.{◌≡◌, List, ◌∙◌, ap, sym, rules}
-use Rattle.rr_codec.specs.Fields.{SlotEntry}
+use Rattle.std.proofs.Common.{◌∙◌, ap, sym}
 use Rattle.rr_codec.specs.Recent.{KnownState}
 use Rattle.rr_codec.specs.Reading.{cells_at, cells_left}
-use Rattle.rr_codec.proofs.LoopLemmas.{all_is_ok, good, is_ok}
+use Rattle.rr_codec.proofs.LoopLemmas.{all_is_ok, good}
 use Rattle.rr_codec.proofs.decoding.decode.Goals as goal
 
 pub returns-in_err-collect-clause-memory : goal.returns-in_err-collect-clause-memory

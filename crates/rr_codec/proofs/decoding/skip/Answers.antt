@@ -1,4 +1,4 @@
-use Rattle.std.proofs.Common.{◌≡◌, sym, ◌∙◌, rules}
+use Rattle.std.proofs.Common.{sym, ◌∙◌, rules}
 use Rattle.rr_codec.proofs.LoopLemmas.{rest_goes_on, rest_ends, rest_is}
 use Rattle.rr_codec.proofs.decoding.skip.Goals as goal
 

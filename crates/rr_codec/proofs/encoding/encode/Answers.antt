@@ -22,7 +22,7 @@ loop-cell-preserved c =
           ∙ ap (λ (l : List ℕ). l ++ left) c.in_ok-push_cell.ensures.added
           ∙ append_assoc c.loop-cell.bytes.items (cell_text k cell) left
           ∙ ap (λ (l : List ℕ). c.loop-cell.bytes.items ++ l)
-              (sym (texts_more k cells i cell c.loop-cell-test.true item))
+          (sym (texts_more k cells i cell c.loop-cell-test.true item))
           ∙ c.loop-cell.invariant.added;
       typed = rw (take_more cells i cell c.loop-cell-test.true, item)
           (All-push IsTyped (take i cells) cell c.loop-cell.invariant.typed c.in_ok-push_cell.ensures.typed);

@@ -1,4 +1,4 @@
-use Rattle.rr_codec.proofs.TextLemmas.{packed_of_bytes}
+use Rattle.rr_codec.proofs.CellTextLemmas.{packed_of_bytes}
 use Rattle.rr_codec.proofs.laws.readings_are_texts.Goals as goal
 
 pub returns : goal.returns

@@ -1,4 +1,4 @@
-use Rattle.std.proofs.Common.{◌+◌, ◌*◌, ◌-◌, Ok, ◌∙◌, sym, arith, rules}
+use Rattle.std.proofs.Common.{◌+◌, ◌*◌, ◌-◌, Ok, ◌∙◌, sym, rules}
 use Rattle.std.proofs.lemmas.Result.{err_from_is_err_and}
 use Rattle.rr_codec.specs.Numbers.{number_within}
 use Rattle.rr_codec.proofs.NumberLemmas.{no_byte_left, ended, last_byte, one_more, high_fault, bad_high, good_high}

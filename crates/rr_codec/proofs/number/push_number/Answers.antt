@@ -7,7 +7,7 @@ pub returns-then-rest-lt128 : goal.returns-then-rest-lt128
 returns-then-rest-lt128 c =
     c.in_ok-push.ensures.items
     ∙ ap (λ (l : List ℕ). c.loop.bytes.items ++ l)
-        (sym (text_last (20 - c.loop.counter) c.loop.rest (omega arith) c.if-rest-lt128.true))
+    (sym (text_last (20 - c.loop.counter) c.loop.rest (omega arith) c.if-rest-lt128.true))
     ∙ c.loop.invariant.added
 
 pub loop-preserved : goal.loop-preserved

@@ -10,7 +10,7 @@ unfolding steps_text
 returns c =
     let s = c.args.steps.now in
     let flags = c.in_ok-push_number.ensures
-        ∙ ap (λ (n : ℕ). c.args.bytes.now.items ++ number_text n) c.flags_of.ensures in
+    ∙ ap (λ (n : ℕ). c.args.bytes.now.items ++ number_text n) c.flags_of.ensures in
     let s1 = c.in_ok-push_step.ensures ∙ ap (λ (l : List ℕ). l ++ step_text s.fields.last_value) flags in
     let s2 = c.in_ok-push_step-2.ensures ∙ ap (λ (l : List ℕ). l ++ step_text s.fields.version) s1 in
     let s3 = c.in_ok-push_step-3.ensures ∙ ap (λ (l : List ℕ). l ++ step_text s.fields.last_time) s2 in
@@ -23,6 +23,6 @@ returns c =
     let s10 = c.in_ok-push_step-10.ensures ∙ ap (λ (l : List ℕ). l ++ step_text s.place) s9 in
     on_ok_weaker c.push_step-11.result (λ added. added ∙ ap (λ (l : List ℕ). l ++ step_text s.fields.origin) s10
     ∙ twelve_added c.args.bytes.now.items (number_text (flags_of s)) (step_text s.fields.last_value)
-        (step_text s.fields.version) (step_text s.fields.last_time) (step_text s.fields.min) (step_text s.fields.max)
-        (step_text s.fields.sum) (step_text s.fields.count) (step_text s.fields.mask) (step_text s.fields.slot)
-        (step_text s.place) (step_text s.fields.origin)) c.push_step-11.ensures
+    (step_text s.fields.version) (step_text s.fields.last_time) (step_text s.fields.min) (step_text s.fields.max)
+    (step_text s.fields.sum) (step_text s.fields.count) (step_text s.fields.mask) (step_text s.fields.slot)
+    (step_text s.place) (step_text s.fields.origin)) c.push_step-11.ensures

@@ -1,4 +1,4 @@
-use Rattle.std.proofs.Common.{◌≡◌, ◌-◌, ◌∙◌, refl, ap, sym, rules}
+use Rattle.std.proofs.Common.{◌∙◌, refl, ap, sym, rules}
 use Rattle.rr_codec.specs.Decoding.{LeftState}
 use Rattle.rr_codec.specs.Recent.{KnownState}
 use Rattle.rr_codec.proofs.LoopLemmas.{left_state, walk_ends, walk_fails, walk_goes_on}
@@ -6,9 +6,11 @@ use Rattle.rr_codec.proofs.decoder.Decoder.next.Goals as goal
 
 pub returns-then-self-eq0 : goal.returns-then-self-eq0
 returns-then-self-eq0 c =
-    let d = c.self.inside in
-    (ap (λ (l : LeftState). l.cells) (sym c.self.view_is)
-        ∙ walk_ends d.known d.left d.rest.now c.if-self-eq0.true, refl)
+    let d = c.self.inside in (
+      ap (λ (l : LeftState). l.cells) (sym c.self.view_is)
+          ∙ walk_ends d.known d.left d.rest.now c.if-self-eq0.true,
+      refl,
+    )
 
 pub returns-in-Ok : goal.returns-in-Ok
 returns-in-Ok c =
