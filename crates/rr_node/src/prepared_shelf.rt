@@ -156,7 +156,7 @@ impl<'a> Shelf for PreparedShelf<'a> {
 
     fn counts_cells(&mut self) -> bool
         ensures wanted { result ≡ true }
-        ensures noted { Notes (counts true) self.old self.new }
+        ensures noted { Notes (counts result) self.old self.new }
     {
         self.note(ShelfNote::CountsCells(true));
         true
