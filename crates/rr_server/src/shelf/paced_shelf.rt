@@ -109,7 +109,8 @@ impl<R: Files + Eprint + Clock + Wait, S: Shelf> Shelf for PacedShelf<'_, R, S> 
         let is_asked = self.shelf.counts_cells();
         let counts = is_asked || self.is_turn_over() || self.is_count_old();
         if counts {
-            self.counting.done(self.now());
+            let now = self.now();
+            self.counting.done(now);
         }
         counts
     }
@@ -129,7 +130,8 @@ impl<R: Files + Eprint + Clock + Wait, S: Shelf> Shelf for PacedShelf<'_, R, S> 
             self.log.post();
             return Opening::Unwanted;
         }
-        self.pace.done(self.now());
+        let now = self.now();
+        self.pace.done(now);
         match self.shelf.open() {
             Opening::Writer(output) => Opening::Writer(output),
             // No writer will be handed back, so the turn is over.
@@ -144,7 +146,8 @@ impl<R: Files + Eprint + Clock + Wait, S: Shelf> Shelf for PacedShelf<'_, R, S> 
         ensures { Grows None None (put_back (output_of S.Output.contents output) whole ∷ []) }
     {
         self.shelf.take_back(output, whole);
-        self.pace.done(self.now());
+        let now = self.now();
+        self.pace.done(now);
         self.log.save_is_over();
         self.log.say();
     }
