@@ -47,11 +47,16 @@ impl<'a> Seats for Two<'a> {
     fn serve<T: Threads + Sync>(&mut self, rt: &T, alloc: Global, visits: u64) -> bool {
         let served = AtomicU64::new(0);
         let count = &served;
-        for_each_mut(rt, self.seats.as_mut_slice(), 2, &|_, seat: &mut InMemory| {
-            if is_served(alloc, seat, visits) {
-                count.fetch_add(1, Ordering::SeqCst);
-            }
-        });
+        for_each_mut(
+            rt,
+            self.seats.as_mut_slice(),
+            2,
+            &|_, seat: &mut InMemory| {
+                if is_served(alloc, seat, visits) {
+                    count.fetch_add(1, Ordering::SeqCst);
+                }
+            },
+        );
         served.load(Ordering::SeqCst) == 2
     }
 }
