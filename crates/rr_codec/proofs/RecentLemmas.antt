@@ -4,11 +4,10 @@ use Rattle.std.specs.Prelude.{◌==◌, nat_lt}
 use Rattle.std.specs.Option.{unwrap_or}
 use Rattle.std.specs.List.{position_from, remove}
 use Rattle.std.proofs.lemmas.Bool.Decides.{nat_tests}
-use Rattle.std.proofs.lemmas.List.{take_all, append-nil, length-take}
+use Rattle.std.proofs.lemmas.List.{length-take}
 use Rattle.std.proofs.lemmas.List.Elements.{All-nil, All-cons, All-head, All-tail, All-take, All-drop, All-append}
 use Rattle.std.proofs.lemmas.List.Sums.{prefix_len-le-length}
 use Rattle.std.proofs.lemmas.Iterator.Adapters.{position_from-zero}
-use Rattle.std.proofs.Math.ListN.{drop_of_length-le}
 use Rattle.rr_codec.specs.declared.expecting.Before.{Before}
 use Rattle.rr_codec.specs.declared.fields.Fields.{Fields}
 use Rattle.rr_codec.specs.declared.fault.CodecFault.TheVariants.{BadNumber}
@@ -36,12 +35,6 @@ too_far k place steps few far =
     let le = place_le k.recent cell.origin in
     let not_there : (place_of k.recent cell.origin == place) ≡ false = grind (arith, nat_tests) in
     rw not_there refl
-
--- what is past the end isn't taken out
-pub remove_past : (recent : List Before) (place : ℕ) → length recent ≤ place → remove recent place ≡ recent
-remove_past recent place past =
-    let none : drop (suc place) recent ≡ [] = drop_of_length-le recent {i = suc place} (omega arith) in
-    rw (take_all place recent past, none) (append-nil recent)
 
 -- ---- what is known has numbers of 128 bits
 

@@ -11,7 +11,7 @@ use Rattle.rr_cells.specs.CellBounds.{NamedCell}
 use Rattle.rr_cells.specs.Cells.{Cells}
 use Rattle.rr_cells.specs.Operations.{cell_step, to_cell}
 use Rattle.rr_cells.specs.ReplicaState.{ReplicaState}
-use Rattle.rr_desk.specs.KeeperState.{KeeperState, cells_of, keeper_at_opening, with_all_published, with_pending}
+use Rattle.rr_desk.specs.KeeperState.{KeeperState, cells_of, keeper_at_opening, with_pending}
 use Rattle.rr_desk.specs.PastHorizon.{lost_by, lost_of, past_horizon_of}
 
 -- one operation more
@@ -44,9 +44,6 @@ past_joined k c = alone (lost_of k.schema empty (k.published ++ k.pending)) ∙ 
   where
     alone : (n : ℕ) → min n (2 ^ 64 - 1) ≡ min (min n (2 ^ 64 - 1) + 0) (2 ^ 64 - 1)
     alone n = omega arith
-
-pub past_published : (k : KeeperState) → past_horizon_of k ≡ past_horizon_of (with_all_published k)
-past_published k = ap (λ ops. min (lost_of k.schema empty ops) (2 ^ 64 - 1)) (sym (append-nil (k.published ++ k.pending)))
 
 pub past_at_opening : (h : ReplicaState) (b : Book) → 0 ≡ past_horizon_of (keeper_at_opening h b)
 past_at_opening h b =

@@ -10,10 +10,7 @@ use Rattle.rr_feed.specs.Feed.{FeedState, HandsOut}
 use Rattle.rr_feed.specs.Items.{Item}
 use Rattle.rr_feed.specs.Laws.{IsFed}
 use Rattle.rr_feed.proofs.FedLemmas.{IsFed-next_line}
-use Rattle.rr_desk.specs.declared.gate.GateCall.{GateCall}
-use Rattle.rr_desk.specs.Gate.{WasAsked}
 use Rattle.rr_desk.specs.ReaderState.{ReaderState, HasSeenMore}
-use Rattle.rr_desk.proofs.GateLemmas.{not_asked}
 use Rattle.rr_desk.proofs.PrefixLemmas.{prefix_refl, prefix_trans}
 use Rattle.rr_node.specs.Answering.{HasHanded, HasWritten, HasWrittenSome, Next}
 use Rattle.rr_node.specs.Fetches.{ReaderAndGate, IsAnswered, AreAnswered}
@@ -37,10 +34,6 @@ seen_in_answers [] old new text none = subst (λ (s : ReaderAndGate). HasSeenMor
     (seen_same old.reader)
 seen_in_answers (item ∷ later) old new text (mid, first, rest, one, others, e) =
     seen_more old.reader mid.reader new.reader one.made.seen (seen_in_answers later mid new rest others)
-
--- a gate that isn't asked
-pub unasked : (calls : Option (List GateCall)) → WasAsked calls calls []
-unasked calls = not_asked calls
 
 -- ---- answers, one after the other
 

@@ -2,11 +2,11 @@
 use Rattle.std.proofs.Common.{◌≡◌, ◌⊎◌, ℕ, true, false, List, [], ◌∷◌, Option, Some, None, Result, Ok, Err, refl, subst, inl, inr}
 use Rattle.std.specs.Prelude.{IfErr, IfSome, OnErr, OnOk}
 use Rattle.std.specs.Io.KnownBytes.{Consumes}
-use Rattle.std.proofs.KnownBytes.{Appends-nil, Consumes-trans}
+use Rattle.std.proofs.KnownBytes.{Appends-nil}
 use Rattle.rr_desk.specs.ReaderState.{cells_seen}
 use Rattle.rr_node.specs.declared.fault.NodeFault.{NodeFault}
 use Rattle.rr_node.specs.declared.fault.NodeFault.TheVariants.{ReadFailed, TooManyReads}
-use Rattle.rr_node.specs.Fault.{IsOfLines, IsOfReading}
+use Rattle.rr_node.specs.Fault.{IsOfLines}
 use Rattle.rr_node.specs.Fetches.{ReaderAndGate, HasAnsweredSome, HasAnsweredTaken, HasNotGiven, IsServed, is_pull}
 use Rattle.rr_node.proofs.FetchesLemmas.{seen_same}
 use Rattle.rr_node.proofs.ServingLemmas.{none_answered, of_each}
@@ -61,15 +61,3 @@ served_unread {X} fault had left out at unread why = record {
       (λ f bytes e is pull. let same : fault ≡ f = cc in
       inl (subst (λ (n : NodeFault). (n ≡ ReadFailed) ⊎ (n ≡ TooManyReads)) same why, refl));
 }
-
--- the lines after the first byte that came whole are answered
-pub taken_after : {X : Type 0} (result : Result X NodeFault) (had mid left before after : Option (List ℕ)) (first : ℕ)
-    (old new : ReaderAndGate) → Consumes had mid (first ∷ [])
-    → IfErr result (λ fault. IsOfReading fault → HasAnsweredTaken (first ∷ []) mid left old new before after)
-    → IfErr result (λ fault. IsOfReading fault → IfSome had (λ bytes. is_pull bytes ≡ false
-    → HasAnsweredTaken [] had left old new before after))
-taken_after (Ok x) had mid left before after first old new consumed answered = tt
-taken_after (Err fault) had mid left before after first old new consumed answered = λ reading.
-    let taken = answered reading in
-    of_each had (λ bytes. is_pull bytes ≡ false → HasAnsweredTaken [] had left old new before after)
-    (λ bytes pull. (first ∷ taken.0, Consumes-trans had mid left (first ∷ []) taken.0 consumed taken.1, taken.2))

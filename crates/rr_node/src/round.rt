@@ -88,7 +88,8 @@ fn end_pulls<A: Cells, S: Shelf>(shelf: &mut S, keeper: &Keeper<A>)
 
 /// One round of the keeper of a node: it serves the lines of the next connection, tells the shelf
 /// their report, pulls from each peer of the configuration that is due, in their order, tells the
-/// shelf that it has, and saves a snapshot where the shelf wants one. The answer is whether a connection came; where none will come any more, nothing else is done.
+/// shelf that it has, and saves a snapshot where the shelf wants one. The answer is whether a
+/// connection came; where none will come any more, nothing else is done.
 ///
 /// A fault of the connection ends the connection alone. A peer that can't be reached or whose pull
 /// fails is passed over, and a save that fails too; both are told to the shelf, as is a peer with

@@ -118,10 +118,6 @@ ascend_rest (b ∷ bs) up = up.1
 
 -- ---- no block before a number
 
-pub starts_by_number : (d : ℤ) (bs : List (ℤ × HeldBlock)) → starts_before d bs ≡ begins_before d (keys_of bs)
-starts_by_number d [] = refl
-starts_by_number d (b ∷ bs) = refl
-
 -- nor before a smaller one
 pub begins_later : (d e : ℤ) (ns : List ℤ) → begins_before d ns ≡ false → int_lt d e ≡ false
     → begins_before e ns ≡ false
