@@ -84,12 +84,21 @@ has_failed (Giving left) = false
 has_failed Done = false
 has_failed Failed = true
 
--- a frame whose body is looked at next: of a kind that is due, and not one too many
+-- the end of the names has no body
+abbrev pub is_bad_end : Kind → List ℕ → Bool
+is_bad_end kind.Hello body = false
+is_bad_end kind.Summary body = false
+is_bad_end kind.SummaryEnd body = not (length body == 0)
+is_bad_end kind.Page body = false
+is_bad_end kind.PageEnd body = false
+
+-- a frame that may need memory: of a kind that is due, not one too many, and no bad end
 unfoldable pub frame_due : Giver → List ℕ → Result (Kind × List ℕ) GossipFault
 frame_due g content = do
   frame ← unless why.Failed (has_failed g.stage) (content_at content)
   unless why.UnexpectedFrame (not (is_due g.stage frame.0))
-      (unless why.TooManyFrames (nat_le g.limit g.taken) (Ok frame))
+      (unless why.TooManyFrames (nat_le g.limit g.taken)
+      (unless why.BadFrame (is_bad_end frame.0 frame.1) (Ok frame)))
 
 -- what a giver of the cells m does with what follows the length of a frame
 unfoldable pub giver_takes : Cells → Layout → Giver → List ℕ → Result (Giver × Bool) GossipFault

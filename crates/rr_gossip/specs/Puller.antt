@@ -104,13 +104,6 @@ body_taken s kind.SummaryEnd body = Err why.UnexpectedFrame
 body_taken s kind.Page body = page_taken s body
 body_taken s kind.PageEnd body = end_taken body
 
--- a frame whose body is looked at next: of a kind that is due, and not one too many
-unfoldable pub frame_due : Puller → List ℕ → Result (Kind × List ℕ) GossipFault
-frame_due p content = do
-  frame ← unless why.Failed (has_failed p.stage) (content_at content)
-  unless why.UnexpectedFrame (not (awaits p.stage frame.0))
-      (unless why.TooManyFrames (nat_le p.limit p.taken) (Ok frame))
-
 -- whether frames are still to be sent
 abbrev pub is_sending : Stage → Bool
 is_sending Opening = true

@@ -1,11 +1,11 @@
 //! The side of a session that gives cells.
-ghost use Rattle.std.specs.Prelude.{◌≡◌, Err, OnErr, OnOk, IsTrue};
+ghost use Rattle.std.specs.Prelude.{◌≡◌, Err, OnErr, OnOk, IsTrue, false, length};
 ghost use Rattle.rr_gossip.specs.Session.{is_giving};
 ghost use Rattle.std.specs.Option.{option_map};
 ghost use Rattle.rr_text.specs.Results.{GivesUnless, NeedsMemoryAfter};
 ghost use Rattle.rr_gossip.specs.declared.frame.TheConstants.{MAX_FRAMES};
 ghost use Rattle.rr_gossip.specs.Calls.{SendsNext, TakesFor};
-ghost use Rattle.rr_gossip.specs.Giver.{AreFit, GiverFailed, first_giver, has_failed, is_due, is_listing, names_in, summary_taken, end_taken, body_taken, frame_due, giver_takes, stage_sends, giver_sends};
+ghost use Rattle.rr_gossip.specs.Giver.{AreFit, GiverFailed, first_giver, has_failed, is_bad_end, is_due, is_listing, names_in, summary_taken, end_taken, body_taken, frame_due, giver_takes, stage_sends, giver_sends};
 
 use crate::fault::GossipFault;
 use crate::frame::{Kind, MAX_FRAMES, content_of, frame_bytes};
@@ -74,9 +74,10 @@ impl Stage {
         source: &mut S,
     ) -> Result<(), GossipFault>
         requires { IsTrue (is_listing self.old) }
-        ensures { TakesFor S.layout S.may_become source.old source.new (λ _. self.new) self.new
+        ensures takes { TakesFor S.layout S.may_become source.old source.new (λ _. self.new) self.new
             result (end_taken (S.cells source.new) (S.layout source.old) (names_in self.old)
             body.now) }
+        ensures memory { result ≡ Err GossipFault.Memory → length body.now ≡ 0 }
     {
         let Stage::Listing(names) = self else {
             return Err(GossipFault::UnexpectedFrame);
@@ -105,6 +106,7 @@ impl Stage {
             (λ last. (self.new, last)) self.new result
             (body_taken (S.cells source.new) (S.layout source.old) self.old kind body.now) }
         ensures listing { result ≡ Err GossipFault.Memory → IsTrue (is_listing self.old) }
+        ensures no_bad_end { result ≡ Err GossipFault.Memory → is_bad_end kind body.now ≡ false }
     {
         match kind {
             Kind::Hello => {
@@ -192,8 +194,9 @@ impl Giver {
     /// Refused, in this order, as `Failed` after a fault; as `FrameTooLong` above 300,000 bytes; as
     /// `BadFrame` where it is of no kind; as `UnexpectedFrame` where that kind is not due; as
     /// `TooManyFrames`; and by its body, as `SchemaDiffers` for a Hello of another schema and as
-    /// `BadFrame` for any other. After a refusal the session has failed, after `Memory` too. The
-    /// cost is linear in the frame, and at the last one that of `Source::difference`.
+    /// `BadFrame` for any other. `Memory` hides none of these but a fault of a Summary frame's body.
+    /// After a refusal the session has failed, after `Memory` too. The cost is linear in the frame,
+    /// and at the last one that of `Source::difference`.
     #[tactic(auto, unfolding(crate::specs::Giver::giver_takes, crate::specs::Giver::frame_due))]
     pub fn take<S: Source>(
         &mut self,
