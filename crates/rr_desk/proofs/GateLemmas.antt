@@ -1,13 +1,7 @@
 -- Calls of gates.
-use Rattle.std.proofs.Common.{List, [], ◌++◌, Option, None, Some, sym, ap, ◌∙◌, append_assoc}
-use Rattle.std.proofs.lemmas.List.{append-nil}
+use Rattle.std.proofs.Common.{List, ◌++◌, Option, None, Some, ap, ◌∙◌, append_assoc}
 use Rattle.rr_desk.specs.declared.gate.GateCall.{GateCall}
 use Rattle.rr_desk.specs.Gate.{WasAsked}
-
--- no call
-pub not_asked : (known : Option (List GateCall)) → WasAsked known known []
-not_asked None = tt
-not_asked (Some calls) = sym (append-nil calls)
 
 -- calls, and then others
 pub asked_more : (a b c : Option (List GateCall)) (xs ys : List GateCall) → WasAsked a b xs → WasAsked b c ys
