@@ -87,6 +87,9 @@ OUT_OF_MEMORY = "rr: out of memory"
 # Why, in a line before.
 REASON = re.compile(r"rr: (saved\.new|127\.0\.0\.1:\d+): .+")
 
+# What a node says as it begins, since it replaces a snapshot that it doesn't begin with.
+REPLACED = "rr: saved: will be replaced: no --load"
+
 # What it says if it can't listen, and how often it is then tried with other ports.
 BAD_ADDRESS = "rr: bad address"
 TRIES = 5
@@ -247,7 +250,9 @@ def faults(it, wholes, and_on):
     ended = it.errors[-1:] == [OUT_OF_MEMORY]
     if it.status != (3 if ended and not it.stopped else wholes[0].status):
         yield f"status {it.status}"
-    said = {line for line in it.errors if not REASON.fullmatch(line)} - ({OUT_OF_MEMORY} if ended else set())
+    said = {line for line in it.errors if not REASON.fullmatch(line)} - {REPLACED}
+    if ended:
+        said.discard(OUT_OF_MEMORY)
     if not said <= (FAILURES if it.answers else set()):
         yield f"said {it.errors}"
     if it.saved not in {LAST, *(whole.saved for whole in wholes)}:
