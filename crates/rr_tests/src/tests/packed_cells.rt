@@ -1,5 +1,7 @@
 //! Packed cells: bytes that another program made, and what is read of them.
 
+ghost use Rattle.rr_contrib.specs.Contributions.{IsNumbered};
+
 use rr_archive::Entry;
 use rr_base::{ArchiveSpec, Origin, Schema};
 use rr_codec::{CodecFault, Decoder, check, decode, encode};
@@ -14,8 +16,11 @@ const TWO_HOSTS: [u8; 32] = [
     0x09, 0xe8, 0x07, 0x02, 0x01, 0x02, 0x0e, 0x03, 0x02, 0x11, 0x02, 0xe1, 0x07, 0x01, 0x02, 0x00,
 ];
 
-/// A cell of one sample, in a slot of a minute.
-fn cell(slot: i64, origin: Origin, number: u64, time: i64, value: i64) -> (i64, Entry) {
+/// A cell of one sample, so long after its slot of a minute begins.
+fn cell(slot: i64, origin: Origin, number: u64, after: i64, value: i64) -> (i64, Entry)
+    requires { IsNumbered number 0 }
+{
+    let time = MINUTE.saturating_mul(slot).saturating_add(after);
     let contribution = Contribution::first(number, 0, time, value);
     (
         slot,
@@ -29,13 +34,15 @@ fn cell(slot: i64, origin: Origin, number: u64, time: i64, value: i64) -> (i64, 
 /// These cells.
 fn six_cells(alloc: Global) -> Result<Vec<(i64, Entry)>, Fail> {
     let (one, seven) = (Origin::new(1)?, Origin::new(7)?);
-    let mut cells = Vec::new(alloc);
-    for (slot, first, second) in [(0, 10, 500), (1, 11, 503), (2, 12, 506)] {
-        let time = MINUTE.saturating_mul(slot);
-        cells.push(cell(slot, one, first, time, 100i64.saturating_add(slot)))?;
-        cells.push(cell(slot, seven, second, time.saturating_add(1), -5))?;
-    }
-    Ok(cells)
+    let cells = [
+        cell(0, one, 10, 0, 100),
+        cell(0, seven, 500, 1, -5),
+        cell(1, one, 11, 0, 101),
+        cell(1, seven, 503, 1, -5),
+        cell(2, one, 12, 0, 102),
+        cell(2, seven, 506, 1, -5),
+    ];
+    Ok(Vec::from_array(alloc, cells)?)
 }
 
 #[test]

@@ -22,24 +22,27 @@ const CONFIG: &[u8] = b"step = 60\nlines = \"l\"\nfetch = [\"f\", \"g\"]\nvisits
 /// What each seat is asked.
 const REQUEST: &[u8] = b"fetch LAST 60 0 120 m v\n";
 
+/// The one connection of each.
+const CONNECTIONS: &[Option<&[u8]>] = &[Some(REQUEST)];
+
 /// What each answers: nothing is known.
 const ROWS: &[u8] = b"m v,0,U\nm v,60,U\n\n";
 
 /// A seat over memory whose answer waits for that of the other.
-type InMemory<'a> = Seat<PackedArchive, Prepared<'a>, Meets>;
+type InMemory = Seat<PackedArchive, Prepared<'static>, Meets>;
 
 /// Two seats.
 #[derive(Drop)]
-struct Two<'a> {
-    seats: Vec<InMemory<'a>>,
+struct Two {
+    seats: Vec<InMemory>,
 }
 
 /// Serves a seat, and answers whether memory sufficed.
-fn is_served(alloc: Global, seat: &mut InMemory<'_>, visits: u64) -> bool {
+fn is_served(alloc: Global, seat: &mut InMemory, visits: u64) -> bool {
     serve_seat(alloc, seat, visits).is_ok()
 }
 
-impl<'a> Seats for Two<'a> {
+impl Seats for Two {
     ghost use Rattle.std.specs.Prelude.{None};
 
     ghost calls = { λ _. None };
@@ -62,18 +65,17 @@ impl<'a> Seats for Two<'a> {
 }
 
 /// A seat that is asked once.
-fn seat<'a>(
+fn seat(
     alloc: Global,
     reader: Reader<PackedArchive>,
-    inputs: &'a [Option<&'a [u8]>],
     own: &Signal,
     other: &Signal,
-) -> Option<InMemory<'a>> {
+) -> Option<InMemory> {
     let gate = Meets {
         own: own.share().ok()?,
         other: other.share().ok()?,
     };
-    let visits = Prepared::new(alloc, inputs).ok()?;
+    let visits = Prepared::new(alloc, CONNECTIONS).ok()?;
     Some(Seat {
         reader,
         visits,
@@ -82,7 +84,7 @@ fn seat<'a>(
 }
 
 /// Whether a seat answered that nothing is known.
-fn has_answered(seat: InMemory<'_>) -> bool {
+fn has_answered(seat: InMemory) -> bool {
     let Seat {
         reader: _,
         visits,
@@ -94,16 +96,15 @@ fn has_answered(seat: InMemory<'_>) -> bool {
 }
 
 /// Two seats, of which each waits for the other.
-fn two_seats<'a>(
+fn two_seats(
     clock: &HostRuntime,
     alloc: Global,
     readers: (Reader<PackedArchive>, Reader<PackedArchive>),
-    inputs: &'a [Option<&'a [u8]>],
-) -> Option<Two<'a>> {
+) -> Option<Two> {
     let first = Signal::new(clock, alloc).ok()?;
     let second = Signal::new(clock, alloc).ok()?;
-    let one = seat(alloc, readers.0, inputs, &first, &second)?;
-    let two = seat(alloc, readers.1, inputs, &second, &first)?;
+    let one = seat(alloc, readers.0, &first, &second)?;
+    let two = seat(alloc, readers.1, &second, &first)?;
     Some(Two {
         seats: Vec::from_array(alloc, [one, two]).ok()?,
     })
@@ -114,7 +115,7 @@ fn serve_both<R: Threads + Wait + Sync>(
     rt: &R,
     alloc: Global,
     keeper: &mut Keeper<PackedArchive>,
-    both: &mut Two<'_>,
+    both: &mut Two,
 ) -> Option<()> {
     let config = Config::from_toml(alloc, CONFIG).ok()?;
     let mut lines = Prepared::new(alloc, &[]).ok()?;
@@ -136,8 +137,7 @@ fn answer_both<R: Threads + Wait + Sync>(
     keeper: &mut Keeper<PackedArchive>,
     readers: (Reader<PackedArchive>, Reader<PackedArchive>),
 ) -> Option<(bool, bool)> {
-    let inputs = [Some(REQUEST)];
-    let mut both = two_seats(clock, alloc, readers, &inputs)?;
+    let mut both = two_seats(clock, alloc, readers)?;
     serve_both(rt, alloc, keeper, &mut both)?;
     let Two { mut seats } = both;
     Some((has_answered(seats.pop()?), has_answered(seats.pop()?)))
