@@ -17,7 +17,7 @@ pub enum Visit<R, W> {
 ///
 /// It is seen as the list of its calls, where that is known.
 pub trait Visits {
-    ghost use Rattle.std.specs.Prelude.{◌≡◌, [], ◌∷◌, List, Option};
+    ghost use Rattle.std.specs.Prelude.{[], ◌∷◌, List, Option};
     ghost use Rattle.rr_host.specs.Streams.{stream_of};
     ghost use Rattle.rr_host.specs.Visits.{Call, Differs, HasCalled, TookBack, call_of};
 
