@@ -1,4 +1,5 @@
 mod archives;
+mod asked;
 mod clocks;
 mod cut;
 mod desk;

@@ -45,12 +45,21 @@ fn six_cells(alloc: Global) -> Result<Vec<(i64, Entry)>, Fail> {
     Ok(Vec::from_array(alloc, cells)?)
 }
 
+/// The packed cells, of which there are at most six.
+fn packed(alloc: Global, cells: &[(i64, Entry)]) -> Option<Vec<u8>> {
+    if cells.len() > 6 {
+        return None;
+    }
+    encode(alloc, cells).ok()
+}
+
 #[test]
 fn cells_of_two_hosts_are_packed(rt: HostRuntime) -> Result<(), Fail> {
     let cells = six_cells(rt.alloc())?;
-    let bytes = encode(rt.alloc(), &cells)?;
+    let bytes = packed(rt.alloc(), &cells);
     let read = decode(rt.alloc(), &TWO_HOSTS)?;
-    assert!(rt; bytes.as_slice() == TWO_HOSTS.as_slice() && read == cells);
+    let are_theirs = bytes.is_some_and(|bytes| bytes.as_slice() == TWO_HOSTS.as_slice());
+    assert!(rt; are_theirs && read == cells);
     Ok(())
 }
 
@@ -79,12 +88,12 @@ fn schema(alloc: Global) -> Result<Schema, Fail> {
 #[test]
 fn packed_cells_are_walked_and_checked(rt: HostRuntime) -> Result<(), Fail> {
     let schema = schema(rt.alloc())?;
-    let mut short = 0;
+    let mut short = 0usize;
     for len in 0..TWO_HOSTS.len() {
         if let Some(beginning) = TWO_HOSTS.get(..len)
             && check(beginning, &schema, 0) == Err(CodecFault::Short)
         {
-            short += 1;
+            short = short.saturating_add(1);
         }
     }
     let whole = (check(&TWO_HOSTS, &schema, 0), walked(&TWO_HOSTS));

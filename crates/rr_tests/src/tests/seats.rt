@@ -1,5 +1,6 @@
 //! A node over memory with two seats, each of which is served on a thread of its own.
 
+use super::asked::Asked;
 use super::gates::{Meets, Signal};
 use rr_desk::{Keeper, Reader, open};
 use rr_fakes::replicas::minutes;
@@ -19,17 +20,11 @@ use std::thread::{Threads, for_each_mut};
 const CONFIG: &[u8] = b"step = 60\nlines = \"l\"\nfetch = [\"f\", \"g\"]\nvisits = 1\n\
     [[archive]]\nsteps = 1\nrows = 3\nxff_num = 0\nxff_den = 1\n";
 
-/// What each seat is asked.
-const REQUEST: &[u8] = b"fetch LAST 60 0 120 m v\n";
-
-/// The one connection of each.
-const CONNECTIONS: &[Option<&[u8]>] = &[Some(REQUEST)];
-
 /// What each answers: nothing is known.
 const ROWS: &[u8] = b"m v,0,U\nm v,60,U\n\n";
 
 /// A seat over memory whose answer waits for that of the other.
-type InMemory = Seat<PackedArchive, Prepared<'static>, Meets>;
+type InMemory = Seat<PackedArchive, Asked, Meets>;
 
 /// Two seats.
 #[derive(Drop)]
@@ -75,10 +70,9 @@ fn seat(
         own: own.share().ok()?,
         other: other.share().ok()?,
     };
-    let visits = Prepared::new(alloc, CONNECTIONS).ok()?;
     Some(Seat {
         reader,
-        visits,
+        visits: Asked::new(alloc),
         gate,
     })
 }
@@ -91,7 +85,7 @@ fn has_answered(seat: InMemory) -> bool {
         gate: _,
     } = seat;
     visits
-        .into_last()
+        .into_answer()
         .is_some_and(|answer| answer.as_slice() == ROWS)
 }
 
