@@ -31,7 +31,7 @@ is_true true e = search rules
 is_true false e = absurd (true≢false e)
 
 module _ (s : Layout) (archive : ℕ) where
-  -- a checked cell, and then so many
+  -- a checked cell, and then n more
   abbrev with_first : ℕ → FirstRead → Read
   with_first n read =
       read >>= λ first. cells_checked s archive (Some first.0.0) first.0.1 n first.1 >>= λ others. Ok

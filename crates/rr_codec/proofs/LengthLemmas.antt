@@ -192,7 +192,7 @@ nearer n near = grind (arith, nat_tests)
 small_near : (n : ℕ) → n < 2 ^ 64 → IsNear (2 ^ 66) n
 small_near n lt = grind (arith, nat_tests)
 
--- the steps have at most so many bytes
+-- a bound on the bytes of the steps
 pub record AreShort (s : Steps) : Type 0 where
   pub place : length (step_text s.place) ≤ 1
   pub slot : length (step_text s.fields.slot) ≤ 10

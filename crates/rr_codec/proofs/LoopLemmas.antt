@@ -17,7 +17,7 @@ Read = Result (List SlotEntry × List ℕ) CodecFault
 abbrev pub FirstRead : Type 0
 FirstRead = Result ((SlotEntry × KnownState) × List ℕ) CodecFault
 
--- a cell, and then so many
+-- a cell, and then n more
 abbrev pub with_first : ℕ → FirstRead → Read
 with_first n read = read >>= λ first. cells_at first.0.1 n first.1 >>= λ others. Ok (first.0.0 ∷ others.0, others.1)
 

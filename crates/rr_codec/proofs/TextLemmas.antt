@@ -39,7 +39,7 @@ done_same x y e = cc
 abbrev pub AreBytes : List ℕ → Type 0
 AreBytes bytes = All (λ b. b < 2 ^ 8) bytes
 
--- a number of at most so many bytes, and what follows it, are these bytes
+-- these bytes are a number of at most `most` bytes, and what follows it
 pub record IsNumberAt (most n : ℕ) (rest bytes : List ℕ) : Type 0 where
   pub text : bytes ≡ number_text_within most n ++ rest
   pub fits : n < 2 ^ 128

@@ -38,7 +38,7 @@ start = record {
 unfoldable pub expected_version : Before → ℕ
 expected_version b = plus b.cell.version b.stride
 
--- in rows of so many nanoseconds
+-- in rows of `span` nanoseconds
 unfoldable pub expected_time : ℕ → Before → ℕ → ℕ
 expected_time span b slot = plus b.cell.last_time (times (apart slot b.cell.slot) span)
 

@@ -53,7 +53,7 @@ signed_of n = unless BadNumber (not (fits_i64 (cast_signed w128 n))) (Ok (cast_s
 abbrev pub origin_of : ℕ → Result ℕ CodecFault
 origin_of n = number_below (2 ^ 16) n >>= λ origin. unless BadOrigin (origin == 0) (Ok origin)
 
--- the cell, or the first number that is no field
+-- the cell that these fields make, or the fault of the first one that is out of its range
 unfoldable pub cell_of : Fields → Result SlotEntry CodecFault
 cell_of f = do
   slot ← signed_of f.slot

@@ -5,7 +5,7 @@ use Rattle.rr_text.specs.Results.{◌>>=◌, unless}
 use Rattle.rr_codec.specs.declared.fault.CodecFault.{CodecFault}
 use Rattle.rr_codec.specs.declared.fault.CodecFault.TheVariants.{Short, BadNumber}
 
--- a number as at most so many bytes
+-- a number, written as at most `most` bytes
 unfoldable pub number_text_within : ℕ → ℕ → List ℕ
 number_text_within zero n = []
 number_text_within (suc most) n =
@@ -19,7 +19,7 @@ number_text n = number_text_within 19 n
 abbrev pub is_bad_high : ℕ → Bool
 is_bad_high high = (high == 0) || nat_le (2 ^ 121) high
 
--- a number of at most so many bytes and of at most 128 bits, and what follows it
+-- a number of at most `most` bytes and 128 bits, and what follows it
 unfoldable pub number_within : ℕ → List ℕ → Result (ℕ × List ℕ) CodecFault
 number_within zero bytes = Err BadNumber
 number_within (suc most) [] = Err Short

@@ -19,7 +19,7 @@ cell_at k bytes = do
   cell ← cell_of fields
   Ok ((cell, known_after k fields), steps.1)
 
--- so many cells, and what follows them
+-- n cells, and what follows them
 unfoldable pub cells_at : KnownState → ℕ → List ℕ → Result (List SlotEntry × List ℕ) CodecFault
 cells_at k zero bytes = Ok ([], bytes)
 cells_at k (suc n) bytes = do
@@ -54,7 +54,7 @@ alone x = unless TrailingBytes (not (length x.1 == 0)) (Ok x.0)
 abbrev pub cells_of : List ℕ → Result (List SlotEntry) CodecFault
 cells_of bytes = packed_at bytes >>= alone
 
--- the bytes are a head and so many cells, and nothing else
+-- the bytes are a head, as many cells as it says, and nothing else
 pub record IsWhole (bytes : List ℕ) (count span : ℕ) (cells : List ℕ) : Type 0 where
   pub head : head_at bytes ≡ Ok ((count, span), cells)
   pub cells_end : rest_of (cells_at (nothing_known span) count cells) ≡ Ok []
@@ -81,7 +81,7 @@ checked_at s archive before k bytes = do
   checked ← cell_checked s archive before first.0.0
   Ok ((checked, first.0.1), first.1)
 
--- so many cells, each of which is checked, and what follows them
+-- n cells, each of which is checked, and what follows them
 unfoldable pub cells_checked : Layout → ℕ → Option SlotEntry → KnownState → ℕ → List ℕ
     → Result (List SlotEntry × List ℕ) CodecFault
 cells_checked s archive before k zero bytes = Ok ([], bytes)

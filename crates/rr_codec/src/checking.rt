@@ -73,7 +73,7 @@ fn checked_at<'a>(
     }
 }
 
-/// Goes through so many cells, each of which is checked. Answers what follows them.
+/// Goes through `count` cells, each of which is checked. Answers what follows them.
 fn skip_checked<'a>(
     count: u32,
     span: u128,

@@ -53,7 +53,7 @@ pub(crate) fn head_at(bytes: &[u8]) -> Result<(u32, u128, &[u8]), CodecFault>
     Ok((count, span, rest))
 }
 
-/// Goes through so many cells. Answers what follows them.
+/// Goes through `count` cells. Answers what follows them.
 fn skip<'a>(known: &mut Known, count: u32, bytes: &'a [u8]) -> Result<&'a [u8], CodecFault>
     ensures { Finds (λ rest. rest.now) result (rest_of (cells_at known.old count bytes.now)) }
 {

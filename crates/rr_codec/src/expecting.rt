@@ -78,7 +78,7 @@ impl Before {
         last_value.wrapping_add(up)
     }
 
-    /// The steps from the expected fields to those of a cell, in rows of so many nanoseconds.
+    /// The steps from the expected fields to those of a cell, in rows of `span` nanoseconds.
     #[tactic(auto, unfolding(crate::specs::Expecting::steps_to))]
     pub(crate) fn steps_to(&self, span: u128, cell: &Fields) -> Fields
         ensures { result ≡ steps_to span self.now cell.now }

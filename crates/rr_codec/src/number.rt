@@ -35,7 +35,7 @@ fn is_bad_high(high: u128) -> bool
     high == 0 || high >= 1 << 121
 }
 
-/// A number of at most so many bytes, and what follows it.
+/// A number of at most `most` bytes, and what follows it.
 fn number_within(bytes: &[u8], most: u32) -> Result<(u128, &[u8]), CodecFault>
     ensures { Finds (λ x. (x.0, x.1.now)) result (number_within most bytes.now) }
 {

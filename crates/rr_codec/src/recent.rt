@@ -79,7 +79,7 @@ fn take_out(recent: &mut Recent, place: usize)
 }
 
 impl Known {
-    /// What is known before the first cell, in rows of so many nanoseconds.
+    /// What is known before the first cell, in rows of `span` nanoseconds.
     pub(crate) fn new(span: u128) -> Known
         ensures { result ≡ nothing_known span }
     {

@@ -30,7 +30,7 @@ byte_at [] = None
 byte_at (byte ∷ text) =
     if byte == double_quote then None else (if byte == BACKSLASH then escape_at text else Some (byte, text))
 
--- at most so many bytes of it, and what is behind them
+-- at most `most` bytes of it, and what is behind them
 abbrev pub unquoted_within : ℕ → List ℕ → List ℕ × List ℕ
 unquoted_within zero text = ([], text)
 unquoted_within (suc most) text =
