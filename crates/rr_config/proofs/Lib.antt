@@ -1,1 +1,3 @@
 pub mod TextsLemmas
+pub mod LimitsLemmas
+pub mod KeysLemmas

@@ -5,3 +5,4 @@ pub mod Intake
 pub mod Habits
 pub mod Http
 pub mod Config
+pub mod Laws

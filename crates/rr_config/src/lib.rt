@@ -10,7 +10,8 @@
 //! ```
 //!
 //! In `specs/` the configuration of a text is a function of its TOML table, key by key, and so is
-//! the first fault of a text that is refused.
+//! the first fault of a text that is refused. [`laws`] says what each configuration keeps to, and
+//! that it depends on its keys alone.
 #![tactic(auto)]
 
 mod addresses;
@@ -19,6 +20,7 @@ mod fault;
 mod habits;
 mod http;
 mod intake;
+pub mod laws;
 mod named_key;
 mod remark;
 mod value;

@@ -4,6 +4,7 @@ pub mod Precision
 pub mod Reply
 pub mod Fetches
 pub mod Json
+pub mod JsonRows
 pub mod Unquoted
 pub mod Answers
 pub mod Series

@@ -1,0 +1,15 @@
+//! The laws of configurations, with no work to do: the functions have empty bodies.
+ghost use Rattle.rr_config.specs.Laws.{ConfigsAreOfTheirKeys, ConfigsAreWithinLimits};
+
+/// Whatever a text says, a configuration that isn't refused has 1 to 16 addresses for fetches, waits
+/// from a second to a day, and with HTTP rounds and visits without end, a seat at least, and no
+/// more than 16 readers in all.
+pub fn configs_are_within_limits()
+    ensures { ConfigsAreWithinLimits }
+{}
+
+/// Two tables with the same values at the keys of a configuration are the same configuration, or
+/// are refused alike, whatever else they have and in whatever order.
+pub fn configs_are_of_their_keys()
+    ensures { ConfigsAreOfTheirKeys }
+{}
