@@ -12,7 +12,7 @@ import resource
 import sys
 import time
 
-import readings
+import samples
 
 try:
     import rrdtool
@@ -26,14 +26,14 @@ def used():
 
 
 def create(file, minutes, archives):
-    rows = [f"RRA:AVERAGE:0.5:{steps}:{-(-minutes // steps)}" for steps in readings.STEPS[:archives]]
-    start = str(readings.second(-1))
+    rows = [f"RRA:AVERAGE:0.5:{steps}:{-(-minutes // steps)}" for steps in samples.STEPS[:archives]]
+    start = str(samples.second(-1))
     rrdtool.create(file, "--start", start, "--step", "60", "DS:kwh:GAUGE:120:U:U", *rows)
 
 
 def fetch(file, first, minutes):
     # A row is named by the second that it ends at, which is that of its reading.
-    start, end = str(readings.second(first - 1)), str(readings.second(minutes - 2))
+    start, end = str(samples.second(first - 1)), str(samples.second(minutes - 2))
     return rrdtool.fetch(file, "AVERAGE", "--resolution", "60", "--start", start, "--end", end)[2]
 
 
@@ -44,9 +44,9 @@ def main():
         create(file, minutes, archives)
     before, began = used(), time.perf_counter()
     for minute in range(minutes):
-        second = readings.second(minute)
+        second = samples.second(minute)
         for one, file in enumerate(files):
-            rrdtool.update(file, f"{second}:{readings.value(one, minute)}")
+            rrdtool.update(file, f"{second}:{samples.value(one, minute)}")
     taking, taken = time.perf_counter() - began, used() - before
     memory = resource.getrusage(resource.RUSAGE_SELF).ru_maxrss / 1024
     chosen = random.Random(7).choices(range(series), k=fetches)
@@ -55,7 +55,7 @@ def main():
     answers = [fetch(files[one], first, minutes) for one in chosen]
     fetching, fetched = time.perf_counter() - began, used() - before
     for one, rows in zip(chosen, answers):
-        if [row[0] for row in rows] != [readings.value(one, it) for it in range(first, minutes)]:
+        if [row[0] for row in rows] != [samples.value(one, it) for it in range(first, minutes)]:
             sys.exit(f"a fetch answers {rows}")
     print(taking, taken, fetching, fetched, memory)
 

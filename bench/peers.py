@@ -27,7 +27,7 @@ import tempfile
 import time
 import urllib.parse
 
-from readings import key, line, second, value
+from samples import key, line, second, value
 from store import TOP
 
 # Samples that are sent at a time.

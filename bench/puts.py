@@ -19,7 +19,7 @@ import subprocess
 import tempfile
 
 from instructions import counted
-from readings import STEPS, line, second
+from samples import STEPS, line, second
 from store import TOP
 
 # Puts of the shorter run, if the series are not more: counted, and timed.

@@ -9,7 +9,7 @@ to half a second of each command is missed.
 Processor time is no fixed measure: a processor is slower while its neighbours work, which on a virtual machine
 may be those of others. So a fixed piece of work is timed now and then, and its shortest, median and longest
 times are printed beside the table, with the minutes that the gate would have taken had that piece always taken what
-it took in the fastest reading so far.
+it took in the fastest measurement so far.
 
 What the page says under a second heading is written by hand, and is kept.
 """
@@ -32,13 +32,13 @@ PARTS = ("proof", "tests", "edits")
 
 TICKS = os.sysconf("SC_CLK_TCK")
 
-# Seconds between two readings of the times.
+# Seconds between two looks at the times.
 INTERVAL = 0.5
 
-# Readings between two timings of the fixed piece of work.
+# Looks between two timings of the fixed piece of work.
 BETWEEN = 60
 
-# The median of the fixed piece of work, in seconds, in the fastest reading so far, which was of 140 minutes.
+# The median of the fixed piece of work, in seconds, in the fastest measurement so far, which was of 140 minutes.
 FASTEST = 0.22
 
 
@@ -131,7 +131,7 @@ Seconds of processor time of `rt ci`, from nothing, as `tools/gate_time.py` wrot
 processor time in {taken:.0f} on {processors} processors, with {jobs} checks beside each other, of {commit}. A fixed
 piece of work, timed now and then, took from {least:.2f} to {most:.2f} seconds, in the median {median:.2f}: how much
 slower the processors were while others used them. Each half minute scaled to {fastest:.2f}, the median of the fastest
-reading so far, these are {scaled:.0f} minutes. The row `others` is what names no crate.
+measurement so far, these are {scaled:.0f} minutes. The row `others` is what names no crate.
 
 {table}
 The gate's last line: {last}.
@@ -153,10 +153,10 @@ def main():
             times = Times(run.pid)
             works = [fixed_work()]
             before = scaled = 0
-            for reading in itertools.count(1):
+            for look in itertools.count(1):
                 ended = run.poll() is not None
                 times.read()
-                if ended or reading % BETWEEN == 0:
+                if ended or look % BETWEEN == 0:
                     works.append(fixed_work())
                     scaled += (times.total() - before) * FASTEST / works[-1]
                     before = times.total()

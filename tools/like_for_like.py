@@ -1,5 +1,5 @@
 #!/usr/bin/env python3
-"""How long the gate that docs/GATE.md tells of would have taken in the hour of an earlier reading.
+"""How long the gate that docs/GATE.md tells of would have taken in the hour of an earlier measurement.
 
 Processors aren't as fast in each hour, but what didn't change between the two is the same work: the proof or the tests
 of a crate by its code, definitions and proofs, its edits by these and their files. What changed in the crates below is

@@ -1,4 +1,4 @@
-"""Readings of one field of many meters, a minute apart, as the measurements beside other stores take them."""
+"""Samples of one field of many meters, a minute apart, as the measurements beside other stores take them."""
 
 from store import START
 
@@ -7,7 +7,7 @@ STEPS = [1, 2, 4, 8, 16, 32, 48, 64]
 
 
 def value(one, minute):
-    """The reading of a meter in a minute."""
+    """The value of a meter in a minute."""
     return (one * 7919 + minute * 104_729) % 100_000
 
 
@@ -21,5 +21,5 @@ def key(one):
 
 
 def line(one, minute):
-    """A reading in the line protocol."""
+    """A sample in the line protocol."""
     return f"{key(one)}={value(one, minute)}i {second(minute)}000000000\n"
