@@ -261,7 +261,7 @@ def durable(program, folder):
         what = more.replace("\n", " ").strip() or "without every"
         node = Node(program, folder, f"durable = true\n{more}")
         try:
-            # The first turn begins at once, so that its save isn't the one that is looked at.
+            # The first interval begins at once, so that its save isn't the one that is looked at.
             check(f"{what}: a first write", node.curl("/write", body=b"first v=1i 0\n")[0], 204)
             statuses, seconds = at_once(node, count)
             check(f"{what}: writes", (statuses, seconds < within), ([204] * count, True))

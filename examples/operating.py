@@ -92,7 +92,7 @@ def refusals(program, folder):
 
 
 def by_time(program, folder):
-    """A node with turns of a second and a peer that is silent."""
+    """A node with an interval of a second and a peer that is silent."""
     status = folder / "node.prom"
     keys = f'every = 1\nidle = 1\nstatus = "{status}"\npeers = ["127.0.0.1:{PEER}"]\n'
     with socket.create_server(("127.0.0.1", PEER)):
@@ -114,8 +114,8 @@ def by_time(program, folder):
     counts = r"connections (\d+) points (\d+) samples (\d+) refused (\d+) past (\d+)"
     form = re.compile(rf"round: {counts} cells 1 pulls \d+\.\d{{3}} save \d+\.\d{{3}}")
     rounds = [found.groups() for line in said if (found := form.fullmatch(line))]
-    check("a line a turn", rounds.count(("1", "2", "2", "1", "1")) == 1 and rounds.count(("0",) * 5) >= 5, said)
-    # It is called in turns 1, 3, 6, 11: of 16 seconds it holds a few, though it is silent for one each time.
+    check("a line an interval", rounds.count(("1", "2", "2", "1", "1")) == 1 and rounds.count(("0",) * 5) >= 5, said)
+    # It is called in intervals 1, 3, 6, 11: of 16 seconds it holds a few, though it is silent for one each time.
     calls = said.count("peer 1: ReadFailed")
     check("a silent peer is passed over", 2 <= calls <= 4, said)
 

@@ -2,8 +2,8 @@
 //! archives, and streams that count failed calls.
 //!
 //! `rr_schema` has [`Origin`] and [`Schema`], `rr_document` reads a schema from TOML, as
-//! [`FromToml`], and `rr_io` has [`Counted`], [`Failing`] and [`stream`]. A crate that stands on one
-//! of them alone uses that one.
+//! [`FromToml`], and `rr_io` has [`Counted`], [`Failing`] and [`stream`]. A crate that stands on
+//! one of them alone uses that one.
 #![tactic(auto)]
 
 pub use rr_document::FromToml;

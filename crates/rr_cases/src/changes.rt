@@ -36,13 +36,13 @@ fn with_change(alloc: Global, bytes: &[u8], line: &str) -> Result<Vec<u8>> {
 
 /// The bytes with some changed from an offset on.
 fn changed_at(alloc: Global, bytes: &[u8], at: usize, change: &str) -> Result<Vec<u8>> {
-    let (front, back) = bytes
+    let (prefix, back) = bytes
         .split_at_checked(at)
         .context("an offset past the end")?;
     if change == "end" {
-        return Ok(Vec::from_slice(alloc, front)?);
+        return Ok(Vec::from_slice(alloc, prefix)?);
     }
     let change = hex::decode(alloc, change)?;
     let rest = back.get(change.len()..).unwrap_or(&[]);
-    Ok([front, change.as_slice(), rest].concat(alloc)?)
+    Ok([prefix, change.as_slice(), rest].concat(alloc)?)
 }

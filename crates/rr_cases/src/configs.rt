@@ -76,8 +76,8 @@ fn push_some<D: Display + Drop>(
 }
 
 /// Adds a word if it is said.
-fn push_said(output: &mut String, word: &str, is_said: bool) -> Result<(), AllocError> {
-    if is_said {
+fn push_given(output: &mut String, word: &str, is_given: bool) -> Result<(), AllocError> {
+    if is_given {
         output.push_str(word)
     } else {
         Ok(())
@@ -90,7 +90,7 @@ fn push_http(output: &mut String, config: &Config) -> Result<(), AllocError> {
         Some(http) => {
             push_setting(output, "http", http.address.as_str())?;
             write!(output, " seats {}", http.seats)?;
-            push_said(output, " durable", http.durable)
+            push_given(output, " durable", http.durable)
         }
         None => Ok(()),
     }
@@ -99,7 +99,7 @@ fn push_http(output: &mut String, config: &Config) -> Result<(), AllocError> {
 /// Adds what a configuration says of rounds by time, and of what a node says of them.
 fn push_rounds(output: &mut String, config: &Config) -> Result<(), AllocError> {
     push_some(output, "every", config.every)?;
-    push_said(output, "; quiet", config.quiet)?;
+    push_given(output, "; quiet", config.quiet)?;
     match &config.status {
         Some(status) => push_setting(output, "status", status.as_str()),
         None => Ok(()),

@@ -33,12 +33,11 @@ use crate::words::Words;
 use anyhow::{Context, Result, bail};
 use rr_archive::Cells;
 use rr_desk::{Keeper, Reader, open};
+use rr_fakes::clock::Moments;
 use rr_fakes::replicas::minutes;
 use rr_key::SeriesKey;
 use rr_line::Precision;
-use rr_node::{
-    Moments, OpenGate, Report, pull_peer, serve_lines, serve_lines_within, serve_reader,
-};
+use rr_node::{OpenGate, Report, pull_peer, serve_lines, serve_lines_within, serve_reader};
 use std::alloc::{AllocError, Global};
 use std::sync::Wait;
 

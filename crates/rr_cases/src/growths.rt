@@ -19,7 +19,7 @@ use std::alloc::Global;
 use std::sync::Wait;
 
 /// What stands in an input for the number of growths before the one that is refused.
-const TURN: &str = "{m}";
+const MARK: &str = "{m}";
 
 /// Has the growth after `growths` of them refused, from here to [`end`]; with `None` none is.
 pub(crate) fn begin(alloc: Global, growths: Option<u32>) {
@@ -38,7 +38,7 @@ pub(crate) fn end(alloc: Global, growths: Option<u32>) {
 /// The text of an input in which growths are refused.
 pub(crate) fn text_of(input: &[u8]) -> Option<&str> {
     match str::from_utf8(input) {
-        Ok(text) if text.contains(TURN) => Some(text),
+        Ok(text) if text.contains(MARK) => Some(text),
         _ => None,
     }
 }
@@ -99,7 +99,7 @@ pub(crate) fn unexpected<A: Cells, T: Wait>(
         from: 0,
     };
     for growths in 0..LAST {
-        let answer = case.kind.output_at::<A, T>(alloc, rt, text, TURN, growths)?;
+        let answer = case.kind.output_at::<A, T>(alloc, rt, text, MARK, growths)?;
         if !has_refused(alloc) {
             return Ok((!expected.is_last(&answer)).then_some(answer));
         }

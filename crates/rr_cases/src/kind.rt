@@ -7,7 +7,7 @@ use std::alloc::Global;
 use std::sync::Wait;
 
 /// What stands in a file of input for each number in turn.
-const TURN: &str = "{n}";
+const MARK: &str = "{n}";
 
 /// A number that no call of a stream comes to, nor a growth of a call.
 pub(crate) const LAST: u32 = 60_000;
@@ -69,7 +69,7 @@ impl Kind {
         input: &[u8],
     ) -> Result<Vec<u8>> {
         match str::from_utf8(input) {
-            Ok(text) if text.contains(TURN) => self.outputs_in_turn::<A, T>(alloc, rt, text),
+            Ok(text) if text.contains(MARK) => self.outputs_in_turn::<A, T>(alloc, rt, text),
             _ => self.output_of::<A, T>(alloc, rt, input),
         }
     }
@@ -80,11 +80,11 @@ impl Kind {
         rt: &T,
         text: &str,
     ) -> Result<Vec<u8>> {
-        let whole = self.output_at::<A, T>(alloc, rt, text, TURN, LAST)?;
+        let whole = self.output_at::<A, T>(alloc, rt, text, MARK, LAST)?;
         let mut outputs = Vec::new(alloc);
         let mut before = Vec::new(alloc);
         for number in 0..LAST {
-            let output = self.output_at::<A, T>(alloc, rt, text, TURN, number)?;
+            let output = self.output_at::<A, T>(alloc, rt, text, MARK, number)?;
             if output == whole {
                 outputs.extend_from_slice(&whole)?;
                 return Ok(outputs);
@@ -104,11 +104,11 @@ impl Kind {
         alloc: Global,
         rt: &T,
         text: &str,
-        turn: &str,
+        mark: &str,
         number: u32,
     ) -> Result<Vec<u8>> {
         let number = format!(in alloc; "{number}")?;
-        let text = text.replace(alloc, turn, number.as_str())?;
+        let text = text.replace(alloc, mark, number.as_str())?;
         self.output_of::<A, T>(alloc, rt, text.as_bytes())
     }
 

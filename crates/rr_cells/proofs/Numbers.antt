@@ -92,11 +92,11 @@ raised-lowered i a other = elim (cases_lt a i) [
 pub get_or-without : {A : Type 0} (i a : ℕ) (xs : List A) (d : A) → i < length xs
     → get_or (without i xs) a d ≡ get_or xs (raised (Archive i) a) d
 get_or-without i a xs d h =
-    let front : length (take i xs) ≡ i = omega (arith, length-take i xs) in
+    let prefix : length (take i xs) ≡ i = omega (arith, length-take i xs) in
     elim (cases_lt a i) [
-      | inl p ↦ get_or_append_left (take i xs) (drop (i + 1) xs) d a (omega (arith, front, p)) ∙ get_or-take i xs a d p
+      | inl p ↦ get_or_append_left (take i xs) (drop (i + 1) xs) d a (omega (arith, prefix, p)) ∙ get_or-take i xs a d p
           ∙ sym (ap (λ k. get_or xs k d) (stays i a p))
-      | inr p ↦ get_or-append_right (take i xs) (drop (i + 1) xs) i a d front p ∙ get_or-drop (i + 1) xs (a - i) d
+      | inr p ↦ get_or-append_right (take i xs) (drop (i + 1) xs) i a d prefix p ∙ get_or-drop (i + 1) xs (a - i) d
           ∙ ap (λ k. get_or xs k d) (let here : i + 1 + (a - i) ≡ a + 1 = omega (arith, p) in here ∙ sym (rises i a p))
     ]
 

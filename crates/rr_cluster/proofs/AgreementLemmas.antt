@@ -129,8 +129,9 @@ Line = ℕ × Result Command SyntaxFault
 abbrev IsLineOfOne : Line → Type 0
 IsLineOfOne line = SaysOneLine line.1
 
-line_keeps_sound : (m : Option (State Knowledge)) (number : ℕ) (said : Result Command SyntaxFault) → SaysOneLine said
-    → IfSome m IsSound → IfSome (after_line sample_model m number said).0 IsSound
+line_keeps_sound : (m : Option (State Knowledge)) (number : ℕ) (parsed : Result Command SyntaxFault)
+    → SaysOneLine parsed
+    → IfSome m IsSound → IfSome (after_line sample_model m number parsed).0 IsSound
 line_keeps_sound m number (Err fault) one sound = sound
 line_keeps_sound m number (Ok command) one sound =
     by (step sample_model m command) (commands_keep_sound m command sound one)
@@ -151,8 +152,9 @@ lines_keep_sound m (line ∷ lines) (suc count) one sound =
 pub scripts_are_sound : ScriptsAreSound
 scripts_are_sound script count = lines_keep_sound None (commands_of script) count (commands_are_one_line script) tt
 
-line_agrees : (m : Option (State Knowledge)) (number : ℕ) (said : Result Command SyntaxFault) → IfSome m IsSound
-    → after_line cell_model (option_map in_cells m) number said ≡ step_in_cells (after_line sample_model m number said)
+line_agrees : (m : Option (State Knowledge)) (number : ℕ) (parsed : Result Command SyntaxFault) → IfSome m IsSound
+    → after_line cell_model (option_map in_cells m) number parsed ≡ step_in_cells
+        (after_line sample_model m number parsed)
 line_agrees m number (Err fault) sound = refl
 line_agrees m number (Ok command) sound = ap (unless_refused (option_map in_cells m) number)
     (commands_agree m command sound) ∙ by (step sample_model m command)

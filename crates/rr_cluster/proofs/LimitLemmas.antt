@@ -97,8 +97,8 @@ with_last (field ∷ fields) last all fits = (all.0, with_last fields last all.1
 pub fields_fit : (text : List ℕ) (fields : List Field) (rest : List ℕ) → AreFields text fields rest
     → AllByRecursion ValueFits fields
 fields_fit text fields rest h =
-    subst (AllByRecursion ValueFits) (sym h.all) (with_last h.front h.last
-    (leading_fit [] text h.front h.last_text h.leading) (value_fits h.ends.value.0 h.last.1 h.ends.value.2))
+    subst (AllByRecursion ValueFits) (sym h.all) (with_last h.prefix h.last
+    (leading_fit [] text h.prefix h.last_text h.leading) (value_fits h.ends.value.0 h.last.1 h.ends.value.2))
 
 pub time_fits : (precision : Precision) (ending : List ℕ) (time : Option ℤ) (clock : ℤ) → IsEnding precision ending time
     → IsTrue (fits_i64 clock) → IsTrue (fits_i64 (unwrap_or time clock))

@@ -220,7 +220,7 @@ module _ {A : Type 0} {g : Ghosts A} where
   -- an answer that was printed obeys the command that asks for it
   pub obeys_printing : (c : Cluster A g) (m : State Cells) (before after : List ℕ) (due : Result (List ℕ) CommandFault)
       (result : Result (Unit {0}) Stop) → Represents c m
-      → Matches (λ _ said. after ≡ before ++ said) (after ≡ before) result due
+      → Matches (λ _ parsed. after ≡ before ++ parsed) (after ≡ before) result due
       → Obeys (Some c) (Some m) before after result (on_ok (printing m) due)
   obeys_printing c m before after due (Ok done) is h = ((Some m, h.0), ap (on_ok (printing m)) h.1, (h.2, is))
   obeys_printing c m before after due (Err (Refused fault)) is h =

@@ -15,7 +15,7 @@ use Rattle.rr_text.specs.declared.bytes.TheConstants.{LINE_FEED, SPACE}
 use Rattle.rr_cluster.specs.declared.script.event.ScriptLine.{ScriptLine}
 use Rattle.rr_cluster.specs.Command.{Command, IsOneLine}
 use Rattle.rr_cluster.specs.CommandTexts.{command_of, schema_command, upgrade_command, node_command, now_command, write_command, page_command, delta_command, deliver_command, bytes_command, save_command, load_command, fetch_command}
-use Rattle.rr_cluster.specs.Script.{line_view, said_view, said_by, is_skipped, numbered_lines, commands_of, SaysOneLine}
+use Rattle.rr_cluster.specs.Script.{line_view, parsed_view, line_command, is_skipped, numbered_lines, commands_of, SaysOneLine}
 use Rattle.rr_cluster.specs.ScriptWords.{parts_of, words_of, text_of}
 use Rattle.rr_cluster.proofs.ScriptWordsLemmas.{some_parts}
 use Rattle.rr_cluster.proofs.CommandTextsLemmas.{schema_is_one_line, upgrade_is_one_line, node_is_one_line, now_is_one_line, write_is_one_line, page_is_one_line, delta_is_one_line, deliver_is_one_line, bytes_is_one_line, save_is_one_line, load_is_one_line, fetch_is_one_line}
@@ -85,8 +85,8 @@ command_is_one_line (name ∷ words) none =
     (one_of (pointwise nat_eq name (codes "load")) (load_command words) _ (load_is_one_line words)
     (one_of (pointwise nat_eq name (codes "fetch")) (fetch_command words) None (fetch_is_one_line words) tt)))))))))))
 
-said_is_one_line : (line : List ℕ) → HasNoLineFeed line → SaysOneLine (said_by line)
-said_is_one_line line none =
+parsed_is_one_line : (line : List ℕ) → HasNoLineFeed line → SaysOneLine (line_command line)
+parsed_is_one_line line none =
     by (nat_lt MAX_LINE (length line)) (command_of (words_of line))
     (command_is_one_line (words_of line) (ap (list_any (λ byte. eqb byte LINE_FEED))
     (join_with_byte-slice_split SPACE line) ∙ none))
@@ -107,15 +107,15 @@ numbered_are_one_line number (line ∷ lines) all =
     let rest = numbered_are_one_line (number + 1) lines (All-tail HasNoLineFeed line lines all) in
     elim (cases_Bool (is_skipped line)) [
       | inl skipped ↦ rw skipped rest
-      | inr other ↦ rw other (All-cons (λ (l : Line). SaysOneLine l.1) (number, said_by line)
-          (numbered_lines (number + 1) lines) (said_is_one_line line (All-head HasNoLineFeed line lines all)) rest)
+      | inr other ↦ rw other (All-cons (λ (l : Line). SaysOneLine l.1) (number, line_command line)
+          (numbered_lines (number + 1) lines) (parsed_is_one_line line (All-head HasNoLineFeed line lines all)) rest)
     ]
 
 pub commands_are_one_line : (script : List ℕ) → All (λ (line : Line). SaysOneLine line.1) (commands_of script)
 commands_are_one_line script = numbered_are_one_line 1 (parts_of LINE_FEED script) (lines_have_none script)
 
 pub line_says_one_line : (lines : List ScriptLine) (script : List ℕ) (i : ℕ) (d : ScriptLine)
-    → map line_view lines ≡ commands_of script → i < length lines → SaysOneLine (said_view (get_or lines i d).said)
+    → map line_view lines ≡ commands_of script → i < length lines → SaysOneLine (parsed_view (get_or lines i d).parsed)
 line_says_one_line lines script i d views within =
     let P : Line → Type 0 = λ line. SaysOneLine line.1 in
     let all = All-same P (map line_view lines) (commands_of script) views (commands_are_one_line script) in

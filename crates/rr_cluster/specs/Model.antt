@@ -1,4 +1,4 @@
--- The two models of a script. They differ in what a node holds; all else is said once, for both.
+-- The two models of a script. They differ in what a node holds; all else is stated once, for both.
 use Rattle.std.specs.Prelude.{ℕ, List, take, drop}
 use Rattle.std.specs.FinMap.{empty, entries, from_entries}
 use Rattle.rr_schema.specs.Schema.{Layout}

@@ -1,6 +1,6 @@
 -- The output of a script.
 use Rattle.std.specs.Prelude.{◌≡◌, ℕ, List, [], ◌∷◌, ◌++◌, Option, None, Result, Ok, Err}
-use Rattle.rr_fetch.specs.Records.{refusal_text}
+use Rattle.rr_text.specs.Refusal.{refusal_text}
 use Rattle.rr_cluster.specs.declared.fault.CommandFault.{CommandFault}
 use Rattle.rr_cluster.specs.declared.fault.CommandFault.TheVariants.{Syntax}
 use Rattle.rr_cluster.specs.declared.script.fault.SyntaxFault.{SyntaxFault}

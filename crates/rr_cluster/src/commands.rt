@@ -117,8 +117,8 @@ fn run_later_command<A: Cells>(
 
 /// Adds an answer to the text, unless there is none.
 fn print(answer: Result<Vec<u8>, Stop>, text: &mut Vec<u8>) -> Result<(), Stop>
-    ensures { (due : Result (List ℕ) CommandFault) → Gives (λ said. said.items) answer due
-        → Matches (λ _ said. text.new.items ≡ text.old.items ++ said)
+    ensures { (due : Result (List ℕ) CommandFault) → Gives (λ parsed. parsed.items) answer due
+        → Matches (λ _ parsed. text.new.items ≡ text.old.items ++ parsed)
         (text.new.items ≡ text.old.items) result due }
 {
     match answer {

@@ -5,7 +5,7 @@ ghost use Rattle.rr_cells.specs.Cells.{Cells};
 ghost use Rattle.rr_cluster.specs.Meaning.{OptionRepresents, Prints};
 ghost use Rattle.rr_cluster.specs.Model.{cell_model, sample_model};
 ghost use Rattle.rr_cluster.specs.Output.{IsOutput, after_line, output_of};
-ghost use Rattle.rr_cluster.specs.Script.{said_view, SaysOneLine};
+ghost use Rattle.rr_cluster.specs.Script.{parsed_view, SaysOneLine};
 ghost use Rattle.rr_cluster.specs.State.{State};
 
 use crate::cluster::Cluster;
@@ -15,8 +15,8 @@ use crate::script::event::ScriptLine;
 use crate::script::parse_script;
 use crate::stop::Stop;
 use rr_archive::Cells;
-use rr_fetch::push_refusal;
 use rr_ring::RingArchive;
+use rr_text::refusal::push_refusal;
 use std::alloc::Global;
 
 /// What a script prints: the answers of its fetches, and `line N: NAME` for each command that is
@@ -52,13 +52,13 @@ fn run_line<A: Cells>(
     line: &ScriptLine<'_>,
     text: &mut Vec<u8>,
 ) -> Result<(), RunFault>
-    requires line { SaysOneLine (said_view line.now.said) }
+    requires line { SaysOneLine (parsed_view line.now.parsed) }
     requires state { (m : Option (State Cells)) × OptionRepresents cluster.old m }
     ensures { OnOk result ((m : Option (State Cells)) → OptionRepresents cluster.old m
         → Prints cluster.new text.old.items text.new.items
-        (after_line cell_model m line.now.number (said_view line.now.said))) }
+        (after_line cell_model m line.now.number (parsed_view line.now.parsed))) }
 {
-    let done = match line.said {
+    let done = match line.parsed {
         Ok(event) => run_command(alloc, cluster, event, text),
         Err(fault) => Err(Stop::Refused(CommandFault::Syntax(fault))),
     };

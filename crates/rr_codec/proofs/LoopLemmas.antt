@@ -55,38 +55,38 @@ rest_is k n i bytes le = ap rest_of (none_left k n i bytes le)
 -- ---- the cells
 
 -- cells that were read before, and what is still read
-abbrev pub with_front : List SlotEntry → Read → Read
-with_front front read = read >>= λ x. Ok (front ++ x.0, x.1)
+abbrev pub with_prefix : List SlotEntry → Read → Read
+with_prefix prefix read = read >>= λ x. Ok (prefix ++ x.0, x.1)
 
-pub with_nothing : (read : Read) → with_front [] read ≡ read
+pub with_nothing : (read : Read) → with_prefix [] read ≡ read
 with_nothing (Ok x) = refl
 with_nothing (Err f) = refl
 
-regroup : (front : List SlotEntry) (e : SlotEntry) (read : Read)
-    → with_front front (read >>= λ x. Ok (e ∷ x.0, x.1)) ≡ with_front (front ++ e ∷ []) read
-regroup front e (Ok x) = ap (λ (es : List SlotEntry). Ok (es, x.1)) (simp append_assoc)
-regroup front e (Err f) = refl
+regroup : (prefix : List SlotEntry) (e : SlotEntry) (read : Read)
+    → with_prefix prefix (read >>= λ x. Ok (e ∷ x.0, x.1)) ≡ with_prefix (prefix ++ e ∷ []) read
+regroup prefix e (Ok x) = ap (λ (es : List SlotEntry). Ok (es, x.1)) (simp append_assoc)
+regroup prefix e (Err f) = refl
 
-pub front_goes_on : (k after : KnownState) (front : List SlotEntry) (e : SlotEntry) (n i : ℕ) (bytes rest : List ℕ)
+pub prefix_goes_on : (k after : KnownState) (prefix : List SlotEntry) (e : SlotEntry) (n i : ℕ) (bytes rest : List ℕ)
     → i < n
     → cell_at k bytes ≡ Ok ((e, after), rest)
-    → with_front (front ++ e ∷ []) (cells_at after (n - (i + 1)) rest) ≡ with_front front (cells_at k (n - i) bytes)
-front_goes_on k after front e n i bytes rest lt read =
-    sym (ap (with_front front) (first_read k n i bytes lt)
-    ∙ ap (λ (r : FirstRead). with_front front (with_first (n - (i + 1)) r)) read
-    ∙ regroup front e (cells_at after (n - (i + 1)) rest))
+    → with_prefix (prefix ++ e ∷ []) (cells_at after (n - (i + 1)) rest) ≡ with_prefix prefix (cells_at k (n - i) bytes)
+prefix_goes_on k after prefix e n i bytes rest lt read =
+    sym (ap (with_prefix prefix) (first_read k n i bytes lt)
+    ∙ ap (λ (r : FirstRead). with_prefix prefix (with_first (n - (i + 1)) r)) read
+    ∙ regroup prefix e (cells_at after (n - (i + 1)) rest))
 
-pub front_ends : (k : KnownState) (front : List SlotEntry) (n i : ℕ) (bytes : List ℕ) (f : CodecFault) → i < n
-    → cell_at k bytes ≡ Err f → with_front front (cells_at k (n - i) bytes) ≡ Err f
-front_ends k front n i bytes f lt read =
-    ap (with_front front) (first_read k n i bytes lt)
-    ∙ ap (λ (r : FirstRead). with_front front (with_first (n - (i + 1)) r)) read
+pub prefix_ends : (k : KnownState) (prefix : List SlotEntry) (n i : ℕ) (bytes : List ℕ) (f : CodecFault) → i < n
+    → cell_at k bytes ≡ Err f → with_prefix prefix (cells_at k (n - i) bytes) ≡ Err f
+prefix_ends k prefix n i bytes f lt read =
+    ap (with_prefix prefix) (first_read k n i bytes lt)
+    ∙ ap (λ (r : FirstRead). with_prefix prefix (with_first (n - (i + 1)) r)) read
 
-pub front_is : (k : KnownState) (front : List SlotEntry) (n i : ℕ) (bytes : List ℕ) → n ≤ i
-    → cells_left (with_front front (cells_at k (n - i) bytes)) ≡ Ok front
-front_is k front n i bytes le =
-    ap (λ (r : Read). cells_left (with_front front r)) (none_left k n i bytes le)
-    ∙ ap (λ (es : List SlotEntry). Ok es) (append-nil front)
+pub prefix_is : (k : KnownState) (prefix : List SlotEntry) (n i : ℕ) (bytes : List ℕ) → n ≤ i
+    → cells_left (with_prefix prefix (cells_at k (n - i) bytes)) ≡ Ok prefix
+prefix_is k prefix n i bytes le =
+    ap (λ (r : Read). cells_left (with_prefix prefix r)) (none_left k n i bytes le)
+    ∙ ap (λ (es : List SlotEntry). Ok es) (append-nil prefix)
 
 pub not_ok : (r : Read) (f : CodecFault) → r ≡ Err f → IsOk r → ⊥
 not_ok r f e ok = search (rules, e, ok)

@@ -100,8 +100,8 @@ fn skip_checked<'a>(
     Ok(rest)
 }
 
-/// How many cells all of the bytes are, as an archive of a schema may have them. So what a peer or a
-/// file gave is looked through before it is taken; no memory is taken for that.
+/// How many cells all of the bytes are, as an archive of a schema may have them. So what a peer or
+/// a file gave is looked through before it is taken; no memory is taken for that.
 ///
 /// The first fault from left to right refuses the bytes: those of [`decode`](crate::decode), and
 /// behind the bytes of its cell `BadContribution`, where the contribution isn't valid in its slot,

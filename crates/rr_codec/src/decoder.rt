@@ -41,8 +41,8 @@ impl<'a> Decoder<'a> {
         })
     }
 
-    /// The next cell, if one is left, by its slot. After a fault the same one comes again. The cost is
-    /// that of its bytes and of the 16 origins before it.
+    /// The next cell, if one is left, by its slot. After a fault the same one comes again. The cost
+    /// is that of its bytes and of the 16 origins before it.
     pub fn next(&mut self) -> Result<Option<(i64, Entry)>, CodecFault>
         ensures { TakesNext self.old self.new result }
     {

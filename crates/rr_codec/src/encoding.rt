@@ -48,8 +48,8 @@ fn push_cell(bytes: &mut Vec<u8>, known: &mut Known, cell: &(i64, Entry)) -> Res
 /// before it, of which 16 are looked at.
 ///
 /// A cell takes 1 byte if it is as expected. It takes 123 at most: 2 for the flags, 10 for each of
-/// six fields of 64 bits, 19 for the last time, the sum and the mask, 3 for the origin and 1 for its
-/// place.
+/// six fields of 64 bits, 19 for the last time, the sum and the mask, 3 for the origin and 1 for
+/// its place.
 pub fn encode(alloc: Global, cells: &[(i64, Entry)]) -> Result<Vec<u8>, AllocError>
     requires { length cells.now < 2 ^ 32 }
     ensures text { IfOk result (λ bytes. (span : ℕ) × (span < 2 ^ 128)

@@ -12,8 +12,8 @@ pub fn readings_are_texts()
     ensures { ReadingsAreTexts }
 {}
 
-/// Bytes that [`check`](crate::check) takes are read by [`decode`](crate::decode), as cells that are
-/// valid in their slots and ascend by slot and origin.
+/// Bytes that [`check`](crate::check) takes are read by [`decode`](crate::decode), as cells that
+/// are valid in their slots and ascend by slot and origin.
 pub fn what_is_taken_is_checked()
     ensures { WhatIsTakenIsChecked }
 {}

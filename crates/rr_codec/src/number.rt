@@ -1,4 +1,5 @@
-//! Numbers as bytes: seven bits each, the lowest first; the highest bit is set in each but the last.
+//! Numbers as bytes: seven bits each, the lowest first; the highest bit is set in each but the
+//! last.
 ghost use Rattle.std.specs.Prelude.{◌≡◌, ◌≤◌, ◌++◌, OnOk};
 ghost use Rattle.rr_codec.specs.Fault.{Finds};
 ghost use Rattle.rr_codec.specs.Numbers.{is_bad_high, number_text, number_within, number_at};

@@ -7,10 +7,12 @@
 //! └── serve CONFIG --origin N [--load FILE] [--save FILE]
 //! ```
 //!
-//! [`program`] builds it. In `specs/` its rules are what `clap` reads words by (`Program.antt`); what
-//! words then ask for is said where they are read.
+//! [`program`] builds it. In `specs/` its rules are what `clap` reads words by (`Program.antt`);
+//! what words then ask for is said where they are read.
 #![tactic(auto)]
 
 mod subcommands;
+mod version;
 
 pub use subcommands::program;
+pub use version::{PRODUCT, VERSION};

@@ -5,11 +5,9 @@ ghost use Rattle.clap.specs.Words.{app_of};
 ghost use Rattle.rr_command_line.specs.Building.{IsArg, IsCommand};
 ghost use Rattle.rr_command_line.specs.Program.{sim_app, option_rule, check_lines_app, config_rule, origin_rule, bare_serve_app, serve_app, bare_app, script_command_app, stream_commands_app, program_app};
 
+use crate::version::VERSION;
 use clap::{Arg, Command};
 use std::alloc::{AllocError, Global};
-
-/// The version of the program: that of the pages and snapshots that it writes.
-const VERSION: &str = "2";
 
 /// `--NAME VALUE`.
 fn option<'a>(alloc: Global, name: &'a str, value: &'a str, help: &'a str) -> Arg<'a>

@@ -104,18 +104,18 @@ newer_first summary e es = elim (is_newer_than (find cell_name_cmp e.0 summary) 
     ]
 
 -- the walk goes on to the next cell
-pub goes_on : (summary : List NamedVersion) (es front more : List NamedCell) (e : NamedCell) (o : Option NamedCell)
+pub goes_on : (summary : List NamedVersion) (es prefix more : List NamedCell) (e : NamedCell) (o : Option NamedCell)
     (left : List NamedVersion) → T (is_sorted cell_name_cmp summary) → T (is_sorted cell_name_cmp es)
     → left ≡ names_from e.0 summary → o ≡ first_after e.0 es
-    → more ≡ front ++ newer_cell (first_version e.0 left) e
-    → more ++ newer_cells summary (cells_from o es) ≡ front ++ newer_cells summary (cells_from (Some e) es)
-goes_on summary es front more e o left sorted ascend names next added =
+    → more ≡ prefix ++ newer_cell (first_version e.0 left) e
+    → more ++ newer_cells summary (cells_from o es) ≡ prefix ++ newer_cells summary (cells_from (Some e) es)
+goes_on summary es prefix more e o left sorted ascend names next added =
     let known = ap (first_version e.0) names ∙ version_here e.0 summary sorted in
     let rest = ap (λ p. cells_from p es) next ∙ walked_on e.0 es ascend in
-    (λ i. (added ∙ ap (λ k. front ++ newer_cell k e) known) i ++ newer_cells summary (rest i))
-    ∙ append_assoc front (newer_cell (find cell_name_cmp e.0 summary) e)
+    (λ i. (added ∙ ap (λ k. prefix ++ newer_cell k e) known) i ++ newer_cells summary (rest i))
+    ∙ append_assoc prefix (newer_cell (find cell_name_cmp e.0 summary) e)
     (newer_cells summary (filter (λ f. is_lt (cell_name_cmp e.0 f.0)) es))
-    ∙ ap (λ l. front ++ l) (sym (newer_first summary e (filter (λ f. is_lt (cell_name_cmp e.0 f.0)) es)))
+    ∙ ap (λ l. prefix ++ l) (sym (newer_first summary e (filter (λ f. is_lt (cell_name_cmp e.0 f.0)) es)))
 
 -- ---- the whole
 

@@ -13,21 +13,22 @@ use Rattle.rr_delta.specs.Difference.{IsSummary}
 
 -- what was listed, and what is still to be listed of what is left
 abbrev pub listed_so_far : List NamedVersion → ℕ → List NamedCell → List NamedVersion
-listed_so_far front n left = front ++ take n (map named_version left)
+listed_so_far prefix n left = prefix ++ take n (map named_version left)
 
-pub one_listed : (front : List NamedVersion) (count i : ℕ) (e : NamedCell) (left : List NamedCell) → i < count
-    → listed_so_far (front ++ named_version e ∷ []) (count - (i + 1)) left ≡ listed_so_far front (count - i) (e ∷ left)
-one_listed front count i e left lt =
-    append_assoc front (named_version e ∷ []) (take (count - (i + 1)) (map named_version left))
-    ∙ ap (λ n. front ++ take n (map named_version (e ∷ left))) (one_less count i lt)
+pub one_listed : (prefix : List NamedVersion) (count i : ℕ) (e : NamedCell) (left : List NamedCell) → i < count
+    → listed_so_far (prefix ++ named_version e ∷ []) (count - (i + 1)) left ≡ listed_so_far prefix (count - i)
+        (e ∷ left)
+one_listed prefix count i e left lt =
+    append_assoc prefix (named_version e ∷ []) (take (count - (i + 1)) (map named_version left))
+    ∙ ap (λ n. prefix ++ take n (map named_version (e ∷ left))) (one_less count i lt)
   where
     one_less : (m k : ℕ) → k < m → suc (m - (k + 1)) ≡ m - k
     one_less m k h = omega arith
 
-pub all_listed : (front : List NamedVersion) (count i : ℕ) (left : List NamedCell) → count ≤ i
-    → listed_so_far front (count - i) left ≡ front
-all_listed front count i left le = ap (λ n. front ++ take n (map named_version left)) none
-    ∙ ap (λ l. front ++ l) (nothing (map named_version left)) ∙ append-nil front
+pub all_listed : (prefix : List NamedVersion) (count i : ℕ) (left : List NamedCell) → count ≤ i
+    → listed_so_far prefix (count - i) left ≡ prefix
+all_listed prefix count i left le = ap (λ n. prefix ++ take n (map named_version left)) none
+    ∙ ap (λ l. prefix ++ l) (nothing (map named_version left)) ∙ append-nil prefix
   where
     none : count - i ≡ 0
     none = omega arith
@@ -36,9 +37,9 @@ all_listed front count i left le = ap (λ n. front ++ take n (map named_version 
     nothing [] = refl
     nothing (v ∷ vs) = refl
 
-pub none_left : (front : List NamedVersion) (n : ℕ) → listed_so_far front n [] ≡ front
-none_left front zero = append-nil front
-none_left front (suc n) = append-nil front
+pub none_left : (prefix : List NamedVersion) (n : ℕ) → listed_so_far prefix n [] ≡ prefix
+none_left prefix zero = append-nil prefix
+none_left prefix (suc n) = append-nil prefix
 
 pub none_taken : {X : Type 0} (n : ℕ) (xs : List X) → xs ≡ [] → take n xs ≡ []
 none_taken n xs is = ap (take n) is ∙ take-nil n

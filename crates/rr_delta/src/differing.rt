@@ -12,7 +12,7 @@ use rr_cells::{Cell, CellRef};
 use rr_replica::Replica;
 use std::alloc::{AllocError, Global};
 
-/// The names without those at the front that are before a cell's.
+/// The names without those at the beginning that are before a cell's.
 fn names_from<'a>(names: &'a [Name], cell: &CellRef<'_>) -> &'a [Name]
     ensures { map owned_name result.now ≡ names_from (seen_cell cell.now).0
         (map owned_name names.now) }

@@ -8,8 +8,8 @@ use Rattle.rr_cells.proofs.OperationsLemmas.{step-origin}
 use Rattle.rr_desk.specs.declared.change.Change.{Change}
 use Rattle.rr_desk.specs.declared.change.Change.TheVariants.{Put, Join, AddKey, Edition}
 use Rattle.rr_desk.specs.declared.shown.CopyState.{CopyState}
-use Rattle.rr_desk.specs.Changes.{Names, copy_after, copy_names, front_after, front_with, names_after, names_at, ops_in, ops_of}
-use Rattle.rr_desk.specs.Editions.{BookFront}
+use Rattle.rr_desk.specs.Changes.{Names, copy_after, copy_names, prefix_after, prefix_with, names_after, names_at, ops_in, ops_of}
+use Rattle.rr_desk.specs.Editions.{BookPrefix}
 
 pub steps-origin : (ops : List Op) (h : ReplicaState) → (fold step h ops).origin ≡ h.origin
 steps-origin [] h = refl
@@ -35,11 +35,11 @@ started-one x (Join j) h = h
 started-one x (AddKey key) h = h
 started-one x (Edition m) h = refl
 
-front-one : (x : CopyState) (c : Change) → (copy_after x c).front ≡ front_with x.front c
-front-one x (Put p) = refl
-front-one x (Join j) = refl
-front-one x (AddKey key) = refl
-front-one x (Edition m) = refl
+prefix-one : (x : CopyState) (c : Change) → (copy_after x c).prefix ≡ prefix_with x.prefix c
+prefix-one x (Put p) = refl
+prefix-one x (Join j) = refl
+prefix-one x (AddKey key) = refl
+prefix-one x (Edition m) = refl
 
 -- ---- all changes
 
@@ -60,10 +60,10 @@ pub changes-started : (cs : List Change) (x : CopyState) → x.started ≡ true 
 changes-started [] x h = h
 changes-started (c ∷ cs) x h = changes-started cs (copy_after x c) (started-one x c h)
 
-pub changes-front : (cs : List Change) (x : CopyState) → (fold copy_after x cs).front ≡ front_after x.front cs
-changes-front [] x = refl
-changes-front (c ∷ cs) x = changes-front cs (copy_after x c)
-    ∙ ap (λ (s : BookFront). front_after s cs) (front-one x c)
+pub changes-prefix : (cs : List Change) (x : CopyState) → (fold copy_after x cs).prefix ≡ prefix_after x.prefix cs
+changes-prefix [] x = refl
+changes-prefix (c ∷ cs) x = changes-prefix cs (copy_after x c)
+    ∙ ap (λ (s : BookPrefix). prefix_after s cs) (prefix-one x c)
 
 -- ---- one change more
 
@@ -79,13 +79,13 @@ pub names_at-more : (n : Names) (cs : List Change) (c : Change)
 names_at-more n [] c = refl
 names_at-more n (d ∷ cs) c = names_at-more (names_after n d) cs c
 
-pub front_after-more : (s : BookFront) (cs : List Change) (c : Change)
-    → front_after s (cs ++ c ∷ []) ≡ front_with (front_after s cs) c
-front_after-more s [] c = refl
-front_after-more s (d ∷ cs) c = front_after-more (front_with s d) cs c
+pub prefix_after-more : (s : BookPrefix) (cs : List Change) (c : Change)
+    → prefix_after s (cs ++ c ∷ []) ≡ prefix_with (prefix_after s cs) c
+prefix_after-more s [] c = refl
+prefix_after-more s (d ∷ cs) c = prefix_after-more (prefix_with s d) cs c
 
 -- the end of an edition isn't an operation
-pub ops_in-end_edition : (n : Names) (cs : List Change) (m : BookFront)
+pub ops_in-end_edition : (n : Names) (cs : List Change) (m : BookPrefix)
     → ops_in n (cs ++ Edition m ∷ []) ≡ ops_in n cs
 ops_in-end_edition n cs m = ops_in-more n cs (Edition m) ∙ append-nil (ops_in n cs)
 

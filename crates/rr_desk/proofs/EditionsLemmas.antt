@@ -6,7 +6,7 @@ use mathlib.Core.List.{IsPrefix}
 use prog.Atomic.{either}
 use Rattle.logbook.specs.Pages.{Cell, cell, keeps, no_nib, step, Moves, Goes}
 use Rattle.rr_cells.specs.declared.op.Op.{Op}
-use Rattle.rr_desk.specs.Editions.{BookFront, flat, after, Begins, IsCounted, Adds}
+use Rattle.rr_desk.specs.Editions.{BookPrefix, flat, after, Begins, IsCounted, Adds}
 use Rattle.rr_desk.proofs.PrefixLemmas.{prefix_all}
 
 pub flat-append : (xs ys : List (List Op)) → flat (xs ++ ys) ≡ flat xs ++ flat ys
@@ -37,10 +37,10 @@ pub flat-reached : (book : List (List Op)) (all batch : List Op) → Begins (fla
 flat-reached book all batch b is = flat-append book (batch ∷ [])
     ∙ (ap (λ (l : List Op). flat book ++ l) (append-nil batch ∙ is) ∙ b)
 
-pub reached : {E : Type 0} (r : Result (Unit {0}) E) (old new : BookFront) (all batch : List Op)
+pub reached : {E : Type 0} (r : Result (Unit {0}) E) (old new : BookPrefix) (all batch : List Op)
     → OnOk r (new ≡ record { desk = old.desk; editions = old.editions ++ batch ∷ [] })
     → batch ≡ after (flat old.editions) all → Begins (flat old.editions) all → OnOk r (flat new.editions ≡ all)
-reached (Ok u) old new all batch added is b = ap (λ (s : BookFront). flat s.editions) added
+reached (Ok u) old new all batch added is b = ap (λ (s : BookPrefix). flat s.editions) added
     ∙ flat-reached old.editions all batch b is
 reached (Err e) old new all batch added is b = tt
 

@@ -40,7 +40,7 @@ use Rattle.rr_fetch.proofs.RowLaws.{answer_of_state}
 use Rattle.rr_desk.specs.Histories.{HistoryStep, elsewhere, put, joined, HistoryState, Knows, IsHistory, IsWhole, AreHonest, list_of, marks_in, next_scene, ops_of, scene_after}
 use Rattle.rr_desk.proofs.PrefixLemmas.{prefix_nil}
 
--- ---- one turn
+-- ---- one step
 
 -- what an accepted sample says
 own_sample : (h : ReplicaState) (x : Sample) → accepts h (Put x) ≡ true → (x.origin ≡ h.origin) × (h.next ≤ x.number)
@@ -116,111 +116,111 @@ knows_joined h z l c k whole =
           ∙ join_cell_unites s z.world z.known l n c.contribution k.layout k.closed whole.closed whole.here;
     }
 
--- ---- all turns
+-- ---- all steps
 
-honest_there : (s t : Layout) (o p : ℕ) (z : HistoryState) (turns : List HistoryStep) → s ≡ t → o ≡ p
-    → AreHonest s o z turns → AreHonest t p z turns
-honest_there s t o p z turns same one honest = subst (λ (y : Layout × ℕ). AreHonest y.0 y.1 z turns)
+honest_there : (s t : Layout) (o p : ℕ) (z : HistoryState) (steps : List HistoryStep) → s ≡ t → o ≡ p
+    → AreHonest s o z steps → AreHonest t p z steps
+honest_there s t o p z steps same one honest = subst (λ (y : Layout × ℕ). AreHonest y.0 y.1 z steps)
     (λ i. (same i, one i)) honest
 
-pub operations_are_known : (h : ReplicaState) (z : HistoryState) (turns : List HistoryStep) → Knows h z
-    → AreHonest h.schema h.origin z turns → AllAccepted h (ops_of turns)
-    → Knows (fold step h (ops_of turns)) (scene_after h z turns)
+pub operations_are_known : (h : ReplicaState) (z : HistoryState) (steps : List HistoryStep) → Knows h z
+    → AreHonest h.schema h.origin z steps → AllAccepted h (ops_of steps)
+    → Knows (fold step h (ops_of steps)) (scene_after h z steps)
 operations_are_known h z [] k honest accepted = k
-operations_are_known h z (elsewhere x ∷ turns) k honest accepted =
-    operations_are_known h (next_scene h.schema z (elsewhere x)) turns (knows_elsewhere h z x k honest.0.0 honest.0.1)
+operations_are_known h z (elsewhere x ∷ steps) k honest accepted =
+    operations_are_known h (next_scene h.schema z (elsewhere x)) steps (knows_elsewhere h z x k honest.0.0 honest.0.1)
     honest.1 accepted
-operations_are_known h z (put x ∷ turns) k honest accepted =
+operations_are_known h z (put x ∷ steps) k honest accepted =
     let next = step h (Put x) in
     let z' = next_scene h.schema z (put x) in
     let same : with_op h (Put x) ≡ next = sym (step_accepted h (Put x) accepted.0) in
     let schema : h.schema ≡ next.schema = sym (step-schema h (Put x)) in
     let k' : Knows next z' = subst (λ (g : ReplicaState). Knows g z') same (knows_put h z x k accepted.0) in
-    subst (λ (s : Layout). Knows (fold step next (ops_of turns)) (fold (next_scene s) z' turns)) (sym schema)
-    (operations_are_known next z' turns k' (honest_there h.schema next.schema h.origin next.origin z' turns schema
+    subst (λ (s : Layout). Knows (fold step next (ops_of steps)) (fold (next_scene s) z' steps)) (sym schema)
+    (operations_are_known next z' steps k' (honest_there h.schema next.schema h.origin next.origin z' steps schema
     (sym (step-origin h (Put x))) honest.1) accepted.1)
-operations_are_known h z (joined l c ∷ turns) k honest accepted =
+operations_are_known h z (joined l c ∷ steps) k honest accepted =
     let next = step h (Join c) in
     let z' = next_scene h.schema z (joined l c) in
     let same : with_op h (Join c) ≡ next = sym (step_accepted h (Join c) accepted.0) in
     let schema : h.schema ≡ next.schema = sym (step-schema h (Join c)) in
     let k' : Knows next z' = subst (λ (g : ReplicaState). Knows g z') same (knows_joined h z l c k honest.0) in
-    subst (λ (s : Layout). Knows (fold step next (ops_of turns)) (fold (next_scene s) z' turns)) (sym schema)
-    (operations_are_known next z' turns k' (honest_there h.schema next.schema h.origin next.origin z' turns schema
+    subst (λ (s : Layout). Knows (fold step next (ops_of steps)) (fold (next_scene s) z' steps)) (sym schema)
+    (operations_are_known next z' steps k' (honest_there h.schema next.schema h.origin next.origin z' steps schema
     (sym (step-origin h (Join c))) honest.1) accepted.1)
 
-pub lists_are_known : (h : ReplicaState) (z : HistoryState) (turns : List HistoryStep) → IsHistory h z turns
-    → outcome_of h.schema (list_of h turns) ≡ cells_of_knowledge h.schema (scene_after h z turns).known
-lists_are_known h z turns is =
+pub lists_are_known : (h : ReplicaState) (z : HistoryState) (steps : List HistoryStep) → IsHistory h z steps
+    → outcome_of h.schema (list_of h steps) ≡ cells_of_knowledge h.schema (scene_after h z steps).known
+lists_are_known h z steps is =
     let s = h.schema in
-    let ops = ops_of turns in
-    let last = operations_are_known h z turns is.knows is.honest is.accepted in
+    let ops = ops_of steps in
+    let last = operations_are_known h z steps is.knows is.honest is.accepted in
     let same : (fold step h ops).schema ≡ s = steps-schema ops h in
     outcome_of-append s (joins_of h.cells) ops
     ∙ ap (λ (m : Cells). fold (cell_step s) m ops) (outcome_of-joins s h.cells is.knows.layout is.live)
     ∙ sym (steps-cells ops h is.accepted)
     ∙ last.cells
-    ∙ ap (λ (t : Layout). cells_of_knowledge t (scene_after h z turns).known) same
+    ∙ ap (λ (t : Layout). cells_of_knowledge t (scene_after h z steps).known) same
 
-closed_after : (h : ReplicaState) (z : HistoryState) (turns : List HistoryStep) → IsHistory h z turns
-    → IsClosed h.schema (scene_after h z turns).world (scene_after h z turns).known
-closed_after h z turns is = subst (λ (s : Layout). IsClosed s (scene_after h z turns).world
-    (scene_after h z turns).known) (steps-schema (ops_of turns) h)
-    (operations_are_known h z turns is.knows is.honest is.accepted).closed
+closed_after : (h : ReplicaState) (z : HistoryState) (steps : List HistoryStep) → IsHistory h z steps
+    → IsClosed h.schema (scene_after h z steps).world (scene_after h z steps).known
+closed_after h z steps is = subst (λ (s : Layout). IsClosed s (scene_after h z steps).world
+    (scene_after h z steps).known) (steps-schema (ops_of steps) h)
+    (operations_are_known h z steps is.knows is.honest is.accepted).closed
 
 -- ---- what readers answer and give
 
-pub answers_are_of_samples : (h : ReplicaState) (z : HistoryState) (turns : List HistoryStep) (q : Request)
-    → IsHistory h z turns → cells_text h.schema (outcome_of h.schema (list_of h turns)) q
-    ≡ fetch_text h.schema (scene_after h z turns).known q
-answers_are_of_samples h z turns q is =
-    ap (λ (m : Cells). cells_text h.schema m q) (lists_are_known h z turns is)
-    ∙ answer_of_state h.schema is.knows.layout (scene_after h z turns).known q
+pub answers_are_of_samples : (h : ReplicaState) (z : HistoryState) (steps : List HistoryStep) (q : Request)
+    → IsHistory h z steps → cells_text h.schema (outcome_of h.schema (list_of h steps)) q
+    ≡ fetch_text h.schema (scene_after h z steps).known q
+answers_are_of_samples h z steps q is =
+    ap (λ (m : Cells). cells_text h.schema m q) (lists_are_known h z steps is)
+    ∙ answer_of_state h.schema is.knows.layout (scene_after h z steps).known q
 
-all_whole : (h : ReplicaState) (z : HistoryState) (turns : List HistoryStep) → IsHistory h z turns
-    → AllByRecursion (λ e. IsWhole h.schema (scene_after h z turns).world (scene_after h z turns).known (to_cell e))
-    (entries (outcome_of h.schema (list_of h turns)))
-all_whole h z turns is =
-    all_entries (λ e. IsWhole h.schema (scene_after h z turns).world (scene_after h z turns).known (to_cell e))
-    (outcome_of h.schema (list_of h turns))
+all_whole : (h : ReplicaState) (z : HistoryState) (steps : List HistoryStep) → IsHistory h z steps
+    → AllByRecursion (λ e. IsWhole h.schema (scene_after h z steps).world (scene_after h z steps).known (to_cell e))
+    (entries (outcome_of h.schema (list_of h steps)))
+all_whole h z steps is =
+    all_entries (λ e. IsWhole h.schema (scene_after h z steps).world (scene_after h z steps).known (to_cell e))
+    (outcome_of h.schema (list_of h steps))
     (λ n c found. record {
-      closed = closed_after h z turns is;
+      closed = closed_after h z steps is;
       here =
-          ap (λ (m : Cells). get m n) (sym (lists_are_known h z turns is)) ∙ found;
+          ap (λ (m : Cells). get m n) (sym (lists_are_known h z steps is)) ∙ found;
     })
 
-pub cells_saved_are_whole : (h : ReplicaState) (z : HistoryState) (turns : List HistoryStep) → IsHistory h z turns
-    → All (λ e. IsWhole h.schema (scene_after h z turns).world (scene_after h z turns).known (to_cell e))
-    (entries (outcome_of h.schema (list_of h turns)))
-cells_saved_are_whole h z turns is = All-from_recursion _ (entries (outcome_of h.schema (list_of h turns)))
-    (all_whole h z turns is)
+pub cells_saved_are_whole : (h : ReplicaState) (z : HistoryState) (steps : List HistoryStep) → IsHistory h z steps
+    → All (λ e. IsWhole h.schema (scene_after h z steps).world (scene_after h z steps).known (to_cell e))
+    (entries (outcome_of h.schema (list_of h steps)))
+cells_saved_are_whole h z steps is = All-from_recursion _ (entries (outcome_of h.schema (list_of h steps)))
+    (all_whole h z steps is)
 
-pub cells_given_are_whole : (h : ReplicaState) (z : HistoryState) (turns : List HistoryStep)
-    (summary : List NamedVersion) → IsHistory h z turns
-    → All (λ e. IsWhole h.schema (scene_after h z turns).world (scene_after h z turns).known (to_cell e))
-    (newer_cells summary (entries (outcome_of h.schema (list_of h turns))))
+pub cells_given_are_whole : (h : ReplicaState) (z : HistoryState) (steps : List HistoryStep)
+    (summary : List NamedVersion) → IsHistory h z steps
+    → All (λ e. IsWhole h.schema (scene_after h z steps).world (scene_after h z steps).known (to_cell e))
+    (newer_cells summary (entries (outcome_of h.schema (list_of h steps))))
 unfolding newer_cells
-cells_given_are_whole h z turns summary is =
-    All-from_recursion _ (newer_cells summary (entries (outcome_of h.schema (list_of h turns))))
-    (all_filtered (λ e. IsWhole h.schema (scene_after h z turns).world (scene_after h z turns).known (to_cell e)) _
-    (entries (outcome_of h.schema (list_of h turns))) (all_whole h z turns is))
+cells_given_are_whole h z steps summary is =
+    All-from_recursion _ (newer_cells summary (entries (outcome_of h.schema (list_of h steps))))
+    (all_filtered (λ e. IsWhole h.schema (scene_after h z steps).world (scene_after h z steps).known (to_cell e)) _
+    (entries (outcome_of h.schema (list_of h steps))) (all_whole h z steps is))
 
 -- ---- beginnings
 
--- the first turns, with as many operations as a beginning of theirs
-first_turns : (turns : List HistoryStep) (ops : List Op) → IsPrefix ops (ops_of turns)
-    → (first : List HistoryStep) × IsPrefix first turns × (ops_of first ≡ ops)
-first_turns turns [] p = ([], prefix_nil turns, refl)
-first_turns [] (o ∷ ops) p = absurd (cc (p.1))
-first_turns (elsewhere x ∷ turns) (o ∷ ops) p = let r = first_turns turns (o ∷ ops) p in
+-- the first steps, with as many operations as a beginning of theirs
+first_steps : (steps : List HistoryStep) (ops : List Op) → IsPrefix ops (ops_of steps)
+    → (first : List HistoryStep) × IsPrefix first steps × (ops_of first ≡ ops)
+first_steps steps [] p = ([], prefix_nil steps, refl)
+first_steps [] (o ∷ ops) p = absurd (cc (p.1))
+first_steps (elsewhere x ∷ steps) (o ∷ ops) p = let r = first_steps steps (o ∷ ops) p in
     (elsewhere x ∷ r.0, (r.1.0, ap (λ (l : List HistoryStep). elsewhere x ∷ l) r.1.1), r.2)
-first_turns (put x ∷ turns) (o ∷ ops) p =
+first_steps (put x ∷ steps) (o ∷ ops) p =
     let same : o ≡ Put x = cc (p.1) in
-    let r = first_turns turns ops (p.0, cc (p.1)) in
+    let r = first_steps steps ops (p.0, cc (p.1)) in
     (put x ∷ r.0, (r.1.0, ap (λ (l : List HistoryStep). put x ∷ l) r.1.1), cc (same, r.2))
-first_turns (joined l c ∷ turns) (o ∷ ops) p =
+first_steps (joined l c ∷ steps) (o ∷ ops) p =
     let same : o ≡ Join c = cc (p.1) in
-    let r = first_turns turns ops (p.0, cc (p.1)) in
+    let r = first_steps steps ops (p.0, cc (p.1)) in
     (joined l c ∷ r.0, (r.1.0, ap (λ (ts : List HistoryStep). joined l c ∷ ts) r.1.1), cc (same, r.2))
 
 honest_first : (s : Layout) (o : ℕ) (z : HistoryState) (first rest : List HistoryStep) → AreHonest s o z (first ++ rest)
@@ -236,14 +236,14 @@ accepted_first h (put x ∷ first) rest accepted = (accepted.0, accepted_first (
 accepted_first h (joined l c ∷ first) rest accepted =
     (accepted.0, accepted_first (step h (Join c)) first rest accepted.1)
 
-pub beginnings_are_histories : (h : ReplicaState) (z : HistoryState) (turns : List HistoryStep) (list : List Op)
-    → IsHistory h z turns → IsPrefix (joins_of h.cells) list → IsPrefix list (list_of h turns)
-    → (first : List HistoryStep) × IsPrefix first turns × IsHistory h z first × (list ≡ list_of h first)
-beginnings_are_histories h z turns list is p q =
+pub beginnings_are_histories : (h : ReplicaState) (z : HistoryState) (steps : List HistoryStep) (list : List Op)
+    → IsHistory h z steps → IsPrefix (joins_of h.cells) list → IsPrefix list (list_of h steps)
+    → (first : List HistoryStep) × IsPrefix first steps × IsHistory h z first × (list ≡ list_of h first)
+beginnings_are_histories h z steps list is p q =
     let joins = joins_of h.cells in
-    let rest : p.0 ++ q.0 ≡ ops_of turns = append_cancel_left joins (p.0 ++ q.0) (ops_of turns)
+    let rest : p.0 ++ q.0 ≡ ops_of steps = append_cancel_left joins (p.0 ++ q.0) (ops_of steps)
     (sym (append_assoc joins p.0 q.0) ∙ (ap (λ (l : List Op). l ++ q.0) p.1 ∙ q.1)) in
-    let r = first_turns turns p.0 (q.0, rest) in
+    let r = first_steps steps p.0 (q.0, rest) in
     let honest : AreHonest h.schema h.origin z (r.0 ++ r.1.0) =
     subst (AreHonest h.schema h.origin z) (sym r.1.1) is.honest in
     let accepted : AllAccepted h (ops_of (r.0 ++ r.1.0)) =

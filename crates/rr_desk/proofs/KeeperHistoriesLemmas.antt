@@ -28,7 +28,7 @@ use Rattle.rr_cells.specs.Raising.{raised_cells}
 use Rattle.rr_cells.proofs.Raised.{raised_is_closed, raised_makes_raised_cells}
 use Rattle.rr_snapshot.proofs.SavedLemmas.{saved_is_loaded, saved_is_raised}
 use Rattle.rr_desk.specs.Histories.{HistoryStep, elsewhere, put, joined, HistoryState, Knows, HasHistory, IsHonest, AreHonest, next_scene, ops_of, scene_after}
-use Rattle.rr_desk.specs.Laws.{OpeningIsHistory, PutIsATurn, WriteIsTurns, JoinIsATurn, PublishIsNoTurn, OthersWrite, LoadedIsKnown, RaisedIsKnown}
+use Rattle.rr_desk.specs.Laws.{OpeningIsHistory, PutIsAStep, WriteIsSteps, JoinIsAStep, PublishIsNoStep, OthersWrite, LoadedIsKnown, RaisedIsKnown}
 use Rattle.rr_desk.specs.Points.{with_put, with_puts}
 
 -- ---- keepers
@@ -39,10 +39,10 @@ ops_of-append (elsewhere x ∷ xs) ys = ops_of-append xs ys
 ops_of-append (put x ∷ xs) ys = ap (λ (l : List Op). Put x ∷ l) (ops_of-append xs ys)
 ops_of-append (joined l c ∷ xs) ys = ap (λ (ops : List Op). Join c ∷ ops) (ops_of-append xs ys)
 
-honest_more : (s : Layout) (o : ℕ) (z : HistoryState) (turns : List HistoryStep) (t : HistoryStep)
-    → AreHonest s o z turns → IsHonest s o (fold (next_scene s) z turns) t → AreHonest s o z (turns ++ t ∷ [])
+honest_more : (s : Layout) (o : ℕ) (z : HistoryState) (steps : List HistoryStep) (t : HistoryStep)
+    → AreHonest s o z steps → IsHonest s o (fold (next_scene s) z steps) t → AreHonest s o z (steps ++ t ∷ [])
 honest_more s o z [] t honest is = (is, tt)
-honest_more s o z (u ∷ turns) t honest is = (honest.0, honest_more s o (next_scene s z u) turns t honest.1 is)
+honest_more s o z (u ∷ steps) t honest is = (honest.0, honest_more s o (next_scene s z u) steps t honest.1 is)
 
 all_pending : (k : KeeperState) (op : Op) → outcome_of k.schema (k.published ++ (k.pending ++ op ∷ []))
     ≡ cell_step k.schema (outcome_of k.schema (k.published ++ k.pending)) op
@@ -66,20 +66,20 @@ pending_applied k (Join c) = λ i. record {
   cells = all_pending k (Join c) i;
 }
 
-module _ (h : ReplicaState) (z : HistoryState) (turns : List HistoryStep) (k : KeeperState)
-    (has : HasHistory h z turns k) where
-  one_turn : (t : HistoryStep) (op : Op) → ops_of (t ∷ []) ≡ op ∷ [] → accepts (own_replica k) op ≡ true
-      → IsHonest h.schema h.origin (scene_after h z turns) t → HasHistory h z (turns ++ t ∷ []) (with_pending k op)
-  one_turn t op is_op may honest =
-      let ops = ops_of turns in
-      let more : ops_of (turns ++ t ∷ []) ≡ ops ++ op ∷ [] = ops_of-append turns (t ∷ [])
+module _ (h : ReplicaState) (z : HistoryState) (steps : List HistoryStep) (k : KeeperState)
+    (has : HasHistory h z steps k) where
+  one_step : (t : HistoryStep) (op : Op) → ops_of (t ∷ []) ≡ op ∷ [] → accepts (own_replica k) op ≡ true
+      → IsHonest h.schema h.origin (scene_after h z steps) t → HasHistory h z (steps ++ t ∷ []) (with_pending k op)
+  one_step t op is_op may honest =
+      let ops = ops_of steps in
+      let more : ops_of (steps ++ t ∷ []) ≡ ops ++ op ∷ [] = ops_of-append steps (t ∷ [])
       ∙ ap (λ (l : List Op). ops ++ l) is_op in
       let joins = joins_of h.cells in
       record {
         history = record {
           live = has.history.live;
           knows = has.history.knows;
-          honest = honest_more h.schema h.origin z turns t has.history.honest honest;
+          honest = honest_more h.schema h.origin z steps t has.history.honest honest;
           accepted = subst (AllAccepted h) (sym more) (accepted-append ops (op ∷ []) h has.history.accepted
               (subst (λ (g : ReplicaState). accepts g op ≡ true) has.holds may, tt));
         };
@@ -102,36 +102,36 @@ opening_is_history h z b knows =
       holds = λ i. record { schema = h.schema; origin = h.origin; next = h.next; cells = cells i };
     }
 
-pub put_is_a_turn : PutIsATurn
-put_is_a_turn h z turns k key time value has few =
+pub put_is_a_step : PutIsAStep
+put_is_a_step h z steps k key time value has few =
     let x : Sample = record { origin = k.origin; number = k.next; key = key; time = time; value = value } in
-    one_turn h z turns k has (put x) (Put x) refl
+    one_step h z steps k has (put x) (Put x) refl
     (and_from (k.origin == k.origin) (nat_le k.next k.next && nat_le k.next MAX_NUMBER) (eq-eqb k.origin k.origin refl)
     (and_from (nat_le k.next k.next) (nat_le k.next MAX_NUMBER) (le-leb k.next k.next (omega arith))
     (le-leb k.next MAX_NUMBER few)))
     tt
 
-pub write_is_turns : WriteIsTurns
-write_is_turns h z turns k p time [] has few = (
+pub write_is_steps : WriteIsSteps
+write_is_steps h z steps k p time [] has few = (
   [],
-  subst (λ (ts : List HistoryStep). HasHistory h z ts k) (sym (append-nil turns)) has,
+  subst (λ (ts : List HistoryStep). HasHistory h z ts k) (sym (append-nil steps)) has,
 )
-write_is_turns h z turns k p time (field ∷ fields) has few =
+write_is_steps h z steps k p time (field ∷ fields) has few =
     let key = key_text p field.0 in
     let t = put (record { origin = k.origin; number = k.next; key = key; time = time; value = field.1 }) in
-    let rest = write_is_turns h z (turns ++ t ∷ []) (with_put k key time field.1) p time fields
-    (put_is_a_turn h z turns k key time field.1 has (omega (arith, few))) (omega (arith, few)) in (
+    let rest = write_is_steps h z (steps ++ t ∷ []) (with_put k key time field.1) p time fields
+    (put_is_a_step h z steps k key time field.1 has (omega (arith, few))) (omega (arith, few)) in (
       t ∷ rest.0,
       subst (λ (ts : List HistoryStep). HasHistory h z ts (with_puts k p time (field ∷ fields)))
-          (append_assoc turns (t ∷ []) rest.0) rest.1,
+          (append_assoc steps (t ∷ []) rest.0) rest.1,
     )
 
-pub join_is_a_turn : JoinIsATurn
-join_is_a_turn h z turns k known c has cell whole =
-    one_turn h z turns k has (joined known c) (Join c) refl (cell_is_taken k.schema (owned_cell c) cell) whole
+pub join_is_a_step : JoinIsAStep
+join_is_a_step h z steps k known c has cell whole =
+    one_step h z steps k has (joined known c) (Join c) refl (cell_is_taken k.schema (owned_cell c) cell) whole
 
-pub publish_is_no_turn : PublishIsNoTurn
-publish_is_no_turn h z turns k has =
+pub publish_is_no_step : PublishIsNoStep
+publish_is_no_step h z steps k has =
     let all = k.published ++ k.pending in
     let none : all ++ [] ≡ all = append-nil all in
     record {
@@ -147,14 +147,14 @@ publish_is_no_turn h z turns k has =
     }
 
 pub others_write : OthersWrite
-others_write h z turns k x has honest =
-    let same : ops_of (turns ++ elsewhere x ∷ []) ≡ ops_of turns = ops_of-append turns (elsewhere x ∷ [])
-    ∙ append-nil (ops_of turns) in
+others_write h z steps k x has honest =
+    let same : ops_of (steps ++ elsewhere x ∷ []) ≡ ops_of steps = ops_of-append steps (elsewhere x ∷ [])
+    ∙ append-nil (ops_of steps) in
     record {
       history = record {
         live = has.history.live;
         knows = has.history.knows;
-        honest = honest_more h.schema h.origin z turns (elsewhere x) has.history.honest honest;
+        honest = honest_more h.schema h.origin z steps (elsewhere x) has.history.honest honest;
         accepted = subst (AllAccepted h) (sym same) has.history.accepted;
       };
       list = has.list ∙ ap (λ (l : List Op). joins_of h.cells ++ l) (sym same);

@@ -11,12 +11,12 @@ use Rattle.rr_cells.proofs.OperationsLemmas.{accepted-append, outcome_of-append,
 use Rattle.rr_desk.specs.declared.rule.View.{View}
 use Rattle.rr_desk.specs.declared.change.Change.{Change}
 use Rattle.rr_desk.specs.declared.change.Change.TheVariants.{Edition}
-use Rattle.rr_desk.specs.Changes.{Names, front_after, ops_in}
-use Rattle.rr_desk.specs.Editions.{BookFront, flat, Begins}
+use Rattle.rr_desk.specs.Changes.{Names, prefix_after, ops_in}
+use Rattle.rr_desk.specs.Editions.{BookPrefix, flat, Begins}
 use Rattle.rr_desk.specs.Rule.{with_published, keeper_of}
 use Rattle.rr_desk.specs.KeeperState.{KeeperState, cells_of, own_replica, with_pending, IsKeeper, IsTied, IsBooked, IsReady}
 use Rattle.rr_desk.proofs.EditionsLemmas.{begins-refl, begins-more}
-use Rattle.rr_desk.proofs.ChangesLemmas.{front_after-more, ops_in-end_edition, steps-origin}
+use Rattle.rr_desk.proofs.ChangesLemmas.{prefix_after-more, ops_in-end_edition, steps-origin}
 
 -- ---- the keeper's own replica
 
@@ -82,7 +82,7 @@ tied-open v shown own b n cs holds is same none =
 -- ---- the book
 
 -- one operation more is pending, which the keeper's book may lack
-pub booked-push : (v : View) (copy all : BookFront) (pending more : List Op) (op : Op) → IsBooked v copy all pending
+pub booked-push : (v : View) (copy all : BookPrefix) (pending more : List Op) (op : Op) → IsBooked v copy all pending
     → more ≡ pending ++ op ∷ [] → IsBooked v copy all more
 booked-push v copy all pending more op b is = record {
   copy_desk = b.copy_desk;
@@ -94,20 +94,20 @@ booked-push v copy all pending more op b is = record {
 }
 
 -- a publication leaves the keeper booked
-booked-published : (v w : View) (x : ReplicaState) (n : Names) (front new all : BookFront) (cs : List Change)
-    → w ≡ with_published v (ops_in n cs) → new ≡ front_after front cs → IsReady v x n front cs
-    → IsBooked v front all (ops_in n cs) → IsBooked w new all []
-booked-published v w x n front new all cs now last ready b =
-    let here : IsBooked (with_published v (ops_in n cs)) (front_after front cs) all [] = record {
+booked-published : (v w : View) (x : ReplicaState) (n : Names) (prefix new all : BookPrefix) (cs : List Change)
+    → w ≡ with_published v (ops_in n cs) → new ≡ prefix_after prefix cs → IsReady v x n prefix cs
+    → IsBooked v prefix all (ops_in n cs) → IsBooked w new all []
+booked-published v w x n prefix new all cs now last ready b =
+    let here : IsBooked (with_published v (ops_in n cs)) (prefix_after prefix cs) all [] = record {
       copy_desk = ready.desk;
       all_desk = b.all_desk;
       shown = ready.ended;
       whole = subst (λ (l : List Op). Begins (flat all.editions) l) (sym (append-nil (v.seen ++ ops_in n cs))) b.whole;
     } in
-    subst (λ (z : View × BookFront). IsBooked z.0 z.1 all []) (λ i. (sym now i, sym last i)) here
+    subst (λ (z : View × BookPrefix). IsBooked z.0 z.1 all []) (λ i. (sym now i, sym last i)) here
 
 -- an opened desk is booked
-pub booked-open : (v : View) (own : ReplicaState) (copy all : BookFront) (n : Names) (cs : List Change)
+pub booked-open : (v : View) (own : ReplicaState) (copy all : BookPrefix) (n : Names) (cs : List Change)
     → v ≡ keeper_of own all.desk
     → copy ≡ all → flat all.editions ≡ joins_of own.cells → cs ≡ [] → IsBooked v copy all (ops_in n cs)
 booked-open v own copy all n cs is same book none =
@@ -118,95 +118,98 @@ booked-open v own copy all n cs is same book none =
       whole = subst (λ (l : List Op). Begins (flat all.editions) l) (book ∙ sym (append-nil (joins_of own.cells)))
           (begins-refl (flat all.editions));
     } in
-    subst (λ (z : View × BookFront × List Op). IsBooked z.0 z.1 all z.2)
+    subst (λ (z : View × BookPrefix × List Op). IsBooked z.0 z.1 all z.2)
     (λ i. (sym is i, sym same i, ops_in n (sym none i))) whole
 
 -- the end of an edition that has all makes the pending changes ready
-pub ended : (v : View) (shown : ReplicaState) (n : Names) (front all : BookFront) (cs more : List Change) → v.writes ≡ true
+pub ended : (v : View) (shown : ReplicaState) (n : Names) (prefix all : BookPrefix) (cs more : List Change)
+    → v.writes ≡ true
     → v.joined ≡ true → AllAccepted shown (ops_in n cs) → all.desk ≡ v.desk → flat all.editions ≡ v.seen ++ ops_in n cs
-    → more ≡ cs ++ Edition all ∷ [] → IsReady v shown n front more
-ended v shown n front all cs more writes joined accepted desk book is =
-    let last : front_after front more ≡ all = ap (front_after front) is ∙ front_after-more front cs (Edition all) in
+    → more ≡ cs ++ Edition all ∷ [] → IsReady v shown n prefix more
+ended v shown n prefix all cs more writes joined accepted desk book is =
+    let last : prefix_after prefix more ≡ all = ap (prefix_after prefix) is
+        ∙ prefix_after-more prefix cs (Edition all) in
     let same : ops_in n cs ≡ ops_in n more = sym (ap (ops_in n) is ∙ ops_in-end_edition n cs all) in record {
       writes = writes;
       joined = joined;
       accepted = subst (AllAccepted shown) same accepted;
-      ended = ap (λ (s : BookFront). flat s.editions) last ∙ (book ∙ ap (λ (l : List Op). v.seen ++ l) same);
-      desk = ap (λ (s : BookFront). s.desk) last ∙ desk;
+      ended = ap (λ (s : BookPrefix). flat s.editions) last ∙ (book ∙ ap (λ (l : List Op). v.seen ++ l) same);
+      desk = ap (λ (s : BookPrefix). s.desk) last ∙ desk;
     }
 
 -- ---- the keeper
 
 -- an opened desk
-pub keeper-open : (v : View) (shown : ReplicaState) (n : Names) (own : ReplicaState) (front all : BookFront)
+pub keeper-open : (v : View) (shown : ReplicaState) (n : Names) (own : ReplicaState) (prefix all : BookPrefix)
     (cs : List Change) → IsReplicaState own
-    → v ≡ keeper_of own all.desk → shown ≡ own → front ≡ all → flat all.editions ≡ joins_of own.cells → cs ≡ []
-    → IsKeeper v shown n own front all cs false
-keeper-open v shown n own front all cs holds is same begun book none = record {
+    → v ≡ keeper_of own all.desk → shown ≡ own → prefix ≡ all → flat all.editions ≡ joins_of own.cells → cs ≡ []
+    → IsKeeper v shown n own prefix all cs false
+keeper-open v shown n own prefix all cs holds is same begun book none = record {
   tied = tied-open v shown own all.desk n cs holds is same none;
-  booked = booked-open v own front all n cs is begun book none;
+  booked = booked-open v own prefix all n cs is begun book none;
   ready = λ e. cc;
 }
 
 -- one operation more is pending
-pub keeper-push : (v : View) (shown : ReplicaState) (n : Names) (own new : ReplicaState) (front all : BookFront)
-    (cs more : List Change) (ended : Bool) (op : Op) → IsKeeper v shown n own front all cs ended
+pub keeper-push : (v : View) (shown : ReplicaState) (n : Names) (own new : ReplicaState) (prefix all : BookPrefix)
+    (cs more : List Change) (ended : Bool) (op : Op) → IsKeeper v shown n own prefix all cs ended
     → accepts own op ≡ true → new ≡ step own op → ops_in n more ≡ ops_in n cs ++ op ∷ []
-    → IsKeeper v shown n new front all more false
-keeper-push v shown n own new front all cs more ended op k may is left = record {
+    → IsKeeper v shown n new prefix all more false
+keeper-push v shown n own new prefix all cs more ended op k may is left = record {
   tied = tied-push v shown own new (ops_in n cs) (ops_in n more) op k.tied may is left;
-  booked = booked-push v front all (ops_in n cs) (ops_in n more) op k.booked left;
+  booked = booked-push v prefix all (ops_in n cs) (ops_in n more) op k.booked left;
   ready = λ e. cc;
 }
 
 -- further changes are pending, none of which is an operation
-pub keeper-named : (v : View) (shown : ReplicaState) (n : Names) (own : ReplicaState) (front all : BookFront)
-    (cs more : List Change) (ended : Bool) → IsKeeper v shown n own front all cs ended
-    → ops_in n more ≡ ops_in n cs → front_after front more ≡ front_after front cs
-    → IsKeeper v shown n own front all more ended
-keeper-named v shown n own front all cs more ended k same last = record {
+pub keeper-named : (v : View) (shown : ReplicaState) (n : Names) (own : ReplicaState) (prefix all : BookPrefix)
+    (cs more : List Change) (ended : Bool) → IsKeeper v shown n own prefix all cs ended
+    → ops_in n more ≡ ops_in n cs → prefix_after prefix more ≡ prefix_after prefix cs
+    → IsKeeper v shown n own prefix all more ended
+keeper-named v shown n own prefix all cs more ended k same last = record {
   tied = subst (λ (l : List Op). IsTied v shown own l) (sym same) k.tied;
-  booked = subst (λ (l : List Op). IsBooked v front all l) (sym same) k.booked;
+  booked = subst (λ (l : List Op). IsBooked v prefix all l) (sym same) k.booked;
   ready = λ e.
       let ready = k.ready e in record {
         writes = ready.writes;
         joined = ready.joined;
         accepted = subst (AllAccepted shown) (sym same) ready.accepted;
-        ended = ap (λ (s : BookFront). flat s.editions) last ∙ (ready.ended
+        ended = ap (λ (s : BookPrefix). flat s.editions) last ∙ (ready.ended
             ∙ ap (λ (l : List Op). v.seen ++ l) (sym same));
-        desk = ap (λ (s : BookFront). s.desk) last ∙ ready.desk;
+        desk = ap (λ (s : BookPrefix). s.desk) last ∙ ready.desk;
       };
 }
 
 -- all is published
 pub keeper-published : (v w : View) (x y : ReplicaState) (n m : Names) (own : ReplicaState)
-    (front new all : BookFront) (cs rest : List Change)
-    → w ≡ with_published v (ops_in n cs) → rest ≡ [] → y ≡ fold step x (ops_in n cs) → new ≡ front_after front cs
-    → IsKeeper v x n own front all cs true → IsKeeper w y m own new all rest false
-keeper-published v w x y n m own front new all cs rest now none is last k = record {
+    (prefix new all : BookPrefix) (cs rest : List Change)
+    → w ≡ with_published v (ops_in n cs) → rest ≡ [] → y ≡ fold step x (ops_in n cs) → new ≡ prefix_after prefix cs
+    → IsKeeper v x n own prefix all cs true → IsKeeper w y m own new all rest false
+keeper-published v w x y n m own prefix new all cs rest now none is last k = record {
   tied = subst (λ (l : List Change). IsTied w y own (ops_in m l)) (sym none)
       (tied-published v w x y own (ops_in n cs) now is k.tied);
   booked = subst (λ (l : List Change). IsBooked w new all (ops_in m l)) (sym none)
-      (booked-published v w x n front new all cs now last (k.ready refl) k.booked);
+      (booked-published v w x n prefix new all cs now last (k.ready refl) k.booked);
   ready = λ e. cc;
 }
 
 -- nothing has changed
-pub keeper-same : {C : Type 0} (held : C → ReplicaState) (names : C → Names) (front : C → BookFront) (v w : View)
-    (x y : C) (own : ReplicaState) (all : BookFront) (cs rest : List Change) (ended : Bool) → w ≡ v → y ≡ x → rest ≡ cs
-    → IsKeeper v (held x) (names x) own (front x) all cs ended
-    → IsKeeper w (held y) (names y) own (front y) all rest ended
-keeper-same {C = C} held names front v w x y own all cs rest ended now same left k =
-    subst (λ (z : View × C × List Change). IsKeeper z.0 (held z.1) (names z.1) own (front z.1) all z.2 ended)
+pub keeper-same : {C : Type 0} (held : C → ReplicaState) (names : C → Names) (prefix : C → BookPrefix) (v w : View)
+    (x y : C) (own : ReplicaState) (all : BookPrefix) (cs rest : List Change) (ended : Bool) → w ≡ v → y ≡ x → rest ≡ cs
+    → IsKeeper v (held x) (names x) own (prefix x) all cs ended
+    → IsKeeper w (held y) (names y) own (prefix y) all rest ended
+keeper-same {C = C} held names prefix v w x y own all cs rest ended now same left k =
+    subst (λ (z : View × C × List Change). IsKeeper z.0 (held z.1) (names z.1) own (prefix z.1) all z.2 ended)
     (λ i. (sym now i, sym same i, sym left i)) k
 
 -- the book has all, and the pending changes are marked
-pub keeper-ended : (v : View) (x : ReplicaState) (n : Names) (own : ReplicaState) (front all new : BookFront)
-    (cs more : List Change) (ended : Bool) → IsKeeper v x n own front all cs ended → new.desk ≡ all.desk → Begins (flat new.editions) (v.seen ++ ops_in n cs)
-    → ops_in n more ≡ ops_in n cs → IsReady v x n front more → IsKeeper v x n own front new more true
-keeper-ended v x n own front all new cs more ended k desk begins same ready = record {
+pub keeper-ended : (v : View) (x : ReplicaState) (n : Names) (own : ReplicaState) (prefix all new : BookPrefix)
+    (cs more : List Change) (ended : Bool) → IsKeeper v x n own prefix all cs ended → new.desk ≡ all.desk
+        → Begins (flat new.editions) (v.seen ++ ops_in n cs)
+    → ops_in n more ≡ ops_in n cs → IsReady v x n prefix more → IsKeeper v x n own prefix new more true
+keeper-ended v x n own prefix all new cs more ended k desk begins same ready = record {
   tied = subst (λ (l : List Op). IsTied v x own l) (sym same) k.tied;
-  booked = subst (λ (l : List Op). IsBooked v front new l) (sym same)
+  booked = subst (λ (l : List Op). IsBooked v prefix new l) (sym same)
       (record {
         copy_desk = k.booked.copy_desk;
         all_desk = desk
@@ -218,11 +221,11 @@ keeper-ended v x n own front all new cs more ended k desk begins same ready = re
 }
 
 -- the book has perhaps more of what is pending
-pub keeper-unmarked : (v : View) (x : ReplicaState) (n : Names) (own : ReplicaState) (front all new : BookFront)
-    (cs more : List Change) (ended : Bool) → IsKeeper v x n own front all cs ended → new.desk ≡ all.desk
-    → Begins (flat new.editions) (v.seen ++ ops_in n cs) → more ≡ cs → IsKeeper v x n own front new more ended
-keeper-unmarked v x n own front all new cs more ended k desk begins same =
-    subst (λ (l : List Change). IsKeeper v x n own front new l ended) (sym same) (record {
+pub keeper-unmarked : (v : View) (x : ReplicaState) (n : Names) (own : ReplicaState) (prefix all new : BookPrefix)
+    (cs more : List Change) (ended : Bool) → IsKeeper v x n own prefix all cs ended → new.desk ≡ all.desk
+    → Begins (flat new.editions) (v.seen ++ ops_in n cs) → more ≡ cs → IsKeeper v x n own prefix new more ended
+keeper-unmarked v x n own prefix all new cs more ended k desk begins same =
+    subst (λ (l : List Change). IsKeeper v x n own prefix new l ended) (sym same) (record {
       tied = k.tied;
       booked = record {
         copy_desk = k.booked.copy_desk;
@@ -237,8 +240,8 @@ keeper-unmarked v x n own front all new cs more ended k desk begins same =
 -- ---- what contracts see
 
 -- the keeper's own replica holds what all operations make
-pub own-state : (v : View) (shown : ReplicaState) (n : Names) (own : ReplicaState) (front all : BookFront)
-    (cs : List Change) (ended : Bool) (b : Book) (k : KeeperState) → IsKeeper v shown n own front all cs ended
+pub own-state : (v : View) (shown : ReplicaState) (n : Names) (own : ReplicaState) (prefix all : BookPrefix)
+    (cs : List Change) (ended : Bool) (b : Book) (k : KeeperState) → IsKeeper v shown n own prefix all cs ended
     → record {
       desk = b;
       schema = own.schema;
@@ -248,12 +251,12 @@ pub own-state : (v : View) (shown : ReplicaState) (n : Names) (own : ReplicaStat
       pending =
           ops_in n cs;
     } ≡ k → own ≡ own_replica k
-own-state v shown n own front all cs ended b k keeps is =
+own-state v shown n own prefix all cs ended b k keeps is =
     let e = tied-cells v shown own (ops_in n cs) keeps.tied in
     (λ i. record { schema = own.schema; origin = own.origin; next = own.next; cells = e i }) ∙ ap own_replica is
 
-pub cells-state : (v : View) (shown : ReplicaState) (n : Names) (own : ReplicaState) (front all : BookFront)
-    (cs : List Change) (ended : Bool) (b : Book) (k : KeeperState) → IsKeeper v shown n own front all cs ended
+pub cells-state : (v : View) (shown : ReplicaState) (n : Names) (own : ReplicaState) (prefix all : BookPrefix)
+    (cs : List Change) (ended : Bool) (b : Book) (k : KeeperState) → IsKeeper v shown n own prefix all cs ended
     → record {
       desk = b;
       schema = own.schema;
@@ -263,8 +266,8 @@ pub cells-state : (v : View) (shown : ReplicaState) (n : Names) (own : ReplicaSt
       pending =
           ops_in n cs;
     } ≡ k → own.cells ≡ cells_of k
-cells-state v shown n own front all cs ended b k keeps is =
-    ap (λ (h : ReplicaState). h.cells) (own-state v shown n own front all cs ended b k keeps is)
+cells-state v shown n own prefix all cs ended b k keeps is =
+    ap (λ (h : ReplicaState). h.cells) (own-state v shown n own prefix all cs ended b k keeps is)
 
 -- with one operation more that is pending
 pub push-state : (k : KeeperState) (new : ReplicaState) (op : Op) (b : Book) (published pending : List Op)

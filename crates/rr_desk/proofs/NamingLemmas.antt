@@ -59,26 +59,26 @@ module _ (n : Names) (own : List (List ℕ)) (cs : List Change) (named : ℕ) (a
       → knows (take named own) key ≡ false → more ≡ cs ++ AddKey key ∷ [] → AreNamed n own more (named + 1)
   named-next more key at fresh longer =
       let keys = (names_at n cs).keys in
-      let front : keys ≡ take named own = sym (prefix_take keys own are.front) ∙ ap (λ k. take k own) are.many in
-      let new : knows keys key ≡ false = ap (λ ks. knows ks key) front ∙ fresh in
+      let prefix : keys ≡ take named own = sym (prefix_take keys own are.prefix) ∙ ap (λ k. take k own) are.many in
+      let new : knows keys key ≡ false = ap (λ ks. knows ks key) prefix ∙ fresh in
       let last : slice_get own (length keys) ≡ Some key = ap (slice_get own) are.many ∙ at in
       let all : (names_at n more).keys ≡ keys ++ key ∷ [] = ap (λ l. (names_at n l).keys) longer
       ∙ ap (λ (m : Names). m.keys) (names_at-more n cs (AddKey key)) ∙ with_new keys key new in
       let both = subst (λ ks. IsPrefix ks own × (length ks ≡ named + 1)) (sym all)
-      (prefix_next keys own key are.front last, length-append keys (key ∷ []) ∙ ap (λ k. k + 1) are.many) in
-      record { front = both.0; many = both.1 }
+      (prefix_next keys own key are.prefix last, length-append keys (key ∷ []) ∙ ap (λ k. k + 1) are.many) in
+      record { prefix = both.0; many = both.1 }
 
   -- the copies have the same names, by other changes
   pub named-same : (m : Names) (more : List Change) → names_at m more ≡ names_at n cs → AreNamed m own more named
   named-same m more same =
       let both = subst (λ (k : Names). IsPrefix k.keys own × (length k.keys ≡ named)) (sym same)
-      (are.front, are.many) in
-      record { front = both.0; many = both.1 }
+      (are.prefix, are.many) in
+      record { prefix = both.0; many = both.1 }
 
   -- the keeper has keys more
   pub named-grown : (new : List (List ℕ)) → IsPrefix own new → AreNamed n new cs named
   named-grown new more = record {
-    front = prefix_trans (names_at n cs).keys own new are.front more;
+    prefix = prefix_trans (names_at n cs).keys own new are.prefix more;
     many = are.many;
   }
 
@@ -94,7 +94,7 @@ module _ (n : Names) (own : List (List ℕ)) (cs : List Change) (named : ℕ) (a
   pushed-ops series o c more within at mine is longer =
       let keys = (names_at n cs).keys in
       let many = are.many in
-      let there : slice_get keys series ≡ Some (op_key o) = prefix_at keys own series (op_key o) are.front
+      let there : slice_get keys series ≡ Some (op_key o) = prefix_at keys own series (op_key o) are.prefix
       (omega (arith, many, within)) at in
       let same : IsOwn (names_at n cs).origin o = subst (λ origin. IsOwn origin o) (sym (names_at-origin n cs)) mine in
       ap (ops_in n) longer ∙ ops_in-more n cs c
@@ -121,7 +121,7 @@ pub named-open : (n : Names) (own : List (List ℕ)) (cs : List Change) (named :
 named-open n own cs named same none all =
     let keys : (names_at n cs).keys ≡ own = ap (λ l. (names_at n l).keys) none ∙ same in
     let both = subst (λ ks. IsPrefix ks own × (length ks ≡ named)) (sym keys) (prefix_refl own, sym all) in
-    record { front = both.0; many = both.1 }
+    record { prefix = both.0; many = both.1 }
 
 -- ---- changes that are operations
 

@@ -10,7 +10,7 @@ use Rattle.rr_replica.specs.ReplicaWithRoom.{ReplicaWithRoom}
 use Rattle.rr_desk.specs.declared.change.Change.{Change}
 use Rattle.rr_desk.specs.declared.change.Change.TheVariants.{Put, Join, AddKey, Edition}
 use Rattle.rr_desk.specs.declared.shown.CopyState.{CopyState}
-use Rattle.rr_desk.specs.Editions.{BookFront}
+use Rattle.rr_desk.specs.Editions.{BookPrefix}
 
 -- by what a change says which operation it is: the origin of all samples, and the keys of series by their numbers
 pub record Names : Type 0 where
@@ -32,14 +32,14 @@ abbrev pub ops_of : Names → Change → List Op
 ops_of n (Put x) = puts_at n.keys n.origin x.series x.number x.time x.value
 ops_of n (Join x) = joins_in n.keys x.cell.value
 ops_of n (AddKey key) = []
-ops_of n (Edition front) = []
+ops_of n (Edition prefix) = []
 
 -- the names after a change
 abbrev pub names_after : Names → Change → Names
 names_after n (Put x) = n
 names_after n (Join x) = n
 names_after n (AddKey key) = record { origin = n.origin; keys = with_key n.keys key }
-names_after n (Edition front) = n
+names_after n (Edition prefix) = n
 
 -- and after all of these
 abbrev pub names_at : Names → List Change → Names
@@ -56,33 +56,33 @@ copy_after x (Put p) = record {
   held = fold step x.held (ops_of (copy_names x) (Put p));
   keys = x.keys;
   started = x.started;
-  front = x.front;
+  prefix = x.prefix;
 }
 copy_after x (Join j) = record {
   held = fold step x.held (ops_of (copy_names x) (Join j));
   keys = x.keys;
   started = x.started;
-  front = x.front;
+  prefix = x.prefix;
 }
 copy_after x (AddKey key) = record {
   held = x.held;
   keys = with_key x.keys key;
   started = x.started;
-  front = x.front;
+  prefix = x.prefix;
 }
-copy_after x (Edition front) = record { held = x.held; keys = x.keys; started = true; front = front }
+copy_after x (Edition prefix) = record { held = x.held; keys = x.keys; started = true; prefix = prefix }
 
--- the front of the book after a change
-abbrev pub front_with : BookFront → Change → BookFront
-front_with s (Put x) = s
-front_with s (Join x) = s
-front_with s (AddKey key) = s
-front_with s (Edition front) = front
+-- the prefix of the book after a change
+abbrev pub prefix_with : BookPrefix → Change → BookPrefix
+prefix_with s (Put x) = s
+prefix_with s (Join x) = s
+prefix_with s (AddKey key) = s
+prefix_with s (Edition prefix) = prefix
 
 -- and after these: that of the last edition that ends among them, or else the one before
-abbrev pub front_after : BookFront → List Change → BookFront
-front_after s [] = s
-front_after s (c ∷ cs) = front_after (front_with s c) cs
+abbrev pub prefix_after : BookPrefix → List Change → BookPrefix
+prefix_after s [] = s
+prefix_after s (c ∷ cs) = prefix_after (prefix_with s c) cs
 
 -- a sample is of this origin
 abbrev pub IsOwn : ℕ → Op → Type 0
@@ -96,5 +96,5 @@ pub record IsChangeOf (series : ℕ) (o : Op) (c : Change) : Type 0 where
 
 -- after these changes the copies have this many of the keeper's keys: the first ones, in the same order
 pub record AreNamed (n : Names) (own : List (List ℕ)) (cs : List Change) (named : ℕ) : Type 0 where
-  pub front : IsPrefix (names_at n cs).keys own
+  pub prefix : IsPrefix (names_at n cs).keys own
   pub many : length (names_at n cs).keys ≡ named

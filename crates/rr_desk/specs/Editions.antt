@@ -5,7 +5,7 @@ use Rattle.logbook.specs.Pages.{Cell, Step, View, Book, Named}
 use Rattle.rr_cells.specs.declared.op.Op.{Op}
 
 -- the editions of a desk's book, as far as they were seen
-pub record BookFront : Type 0 where
+pub record BookPrefix : Type 0 where
   pub desk : Book
   pub editions : List (List Op)
 
@@ -27,7 +27,7 @@ abbrev pub Adds : List Op → Step (List Op) → View (List Op) ℕ → ℕ → 
 Adds batch s v found w = MatchBool (found == s.old) (w.0 ≡ v.0 ++ batch ∷ []) (Unit {0})
 
 -- a book got an edition, with which it has these operations, or it was refused one and is as before
-pub record Reaches {E : Type 0} (ops : List Op) (old new : BookFront) (result : Result (Unit {0}) E) : Type 0 where
+pub record Reaches {E : Type 0} (ops : List Op) (old new : BookPrefix) (result : Result (Unit {0}) E) : Type 0 where
   pub reached : OnOk result (flat new.editions ≡ ops)
   pub desk : new.desk ≡ old.desk
   pub unchanged : OnErr result (new ≡ old)

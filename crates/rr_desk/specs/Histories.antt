@@ -75,22 +75,22 @@ pub record Knows (h : ReplicaState) (z : HistoryState) : Type 0 where
   pub cells : h.cells ≡ cells_of_knowledge h.schema z.known
 
 -- a desk is opened with what a replica holds, and then this happens
-pub record IsHistory (h : ReplicaState) (z : HistoryState) (turns : List HistoryStep) : Type 0 where
+pub record IsHistory (h : ReplicaState) (z : HistoryState) (steps : List HistoryStep) : Type 0 where
   pub live : IsTrimmed h.schema h.cells
   pub knows : Knows h z
-  pub honest : AreHonest h.schema h.origin z turns
-  pub accepted : AllAccepted h (ops_of turns)
+  pub honest : AreHonest h.schema h.origin z steps
+  pub accepted : AllAccepted h (ops_of steps)
 
 -- the operations that the desk then has: one join for each cell, and the keeper's
 abbrev pub list_of : ReplicaState → List HistoryStep → List Op
-list_of h turns = joins_of h.cells ++ ops_of turns
+list_of h steps = joins_of h.cells ++ ops_of steps
 
 -- what was written and is known then
 abbrev pub scene_after : ReplicaState → HistoryState → List HistoryStep → HistoryState
-scene_after h z turns = fold (next_scene h.schema) z turns
+scene_after h z steps = fold (next_scene h.schema) z steps
 
 -- a keeper to which this has happened since its desk was opened
-pub record HasHistory (h : ReplicaState) (z : HistoryState) (turns : List HistoryStep) (k : KeeperState) : Type 0 where
-  pub history : IsHistory h z turns
-  pub list : k.published ++ k.pending ≡ list_of h turns
-  pub holds : own_replica k ≡ fold step h (ops_of turns)
+pub record HasHistory (h : ReplicaState) (z : HistoryState) (steps : List HistoryStep) (k : KeeperState) : Type 0 where
+  pub history : IsHistory h z steps
+  pub list : k.published ++ k.pending ≡ list_of h steps
+  pub holds : own_replica k ≡ fold step h (ops_of steps)

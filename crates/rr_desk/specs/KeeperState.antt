@@ -8,8 +8,8 @@ use Rattle.rr_cells.specs.ReplicaState.{ReplicaState}
 use Rattle.rr_cells.specs.Operations.{outcome_of, with_op, step, joins_of, AllAccepted}
 use Rattle.rr_desk.specs.declared.rule.View.{View}
 use Rattle.rr_desk.specs.declared.change.Change.{Change}
-use Rattle.rr_desk.specs.Changes.{Names, ops_in, front_after}
-use Rattle.rr_desk.specs.Editions.{BookFront, flat, Begins}
+use Rattle.rr_desk.specs.Changes.{Names, ops_in, prefix_after}
+use Rattle.rr_desk.specs.Editions.{BookPrefix, flat, Begins}
 
 -- a keeper: its desk; the schema, origin and next number of its own replica; the operations that are published, and
 -- those that are pending
@@ -75,7 +75,7 @@ pub record IsTied (v : View) (shown own : ReplicaState) (pending : List Op) : Ty
   pub applied : own ≡ fold step shown pending
 
 -- the copy's book has what is published, and the keeper's has that and perhaps some of what is pending
-pub record IsBooked (v : View) (copy all : BookFront) (pending : List Op) : Type 0 where
+pub record IsBooked (v : View) (copy all : BookPrefix) (pending : List Op) : Type 0 where
   pub copy_desk : copy.desk ≡ v.desk
   pub all_desk : all.desk ≡ v.desk
   pub shown : flat copy.editions ≡ v.seen
@@ -83,16 +83,16 @@ pub record IsBooked (v : View) (copy all : BookFront) (pending : List Op) : Type
 
 -- the pending changes, by these names, can be published: the last edition that ends among them has what is published and all that is
 -- pending
-pub record IsReady (v : View) (shown : ReplicaState) (n : Names) (front : BookFront) (cs : List Change) : Type 0 where
+pub record IsReady (v : View) (shown : ReplicaState) (n : Names) (prefix : BookPrefix) (cs : List Change) : Type 0 where
   pub writes : v.writes ≡ true
   pub joined : v.joined ≡ true
   pub accepted : AllAccepted shown (ops_in n cs)
-  pub ended : flat (front_after front cs).editions ≡ v.seen ++ ops_in n cs
-  pub desk : (front_after front cs).desk ≡ v.desk
+  pub ended : flat (prefix_after prefix cs).editions ≡ v.seen ++ ops_in n cs
+  pub desk : (prefix_after prefix cs).desk ≡ v.desk
 
 -- what a keeper keeps to, with the names of its copies, the changes that are pending, and whether the last of them ends an edition of all
-pub record IsKeeper (v : View) (shown : ReplicaState) (n : Names) (own : ReplicaState) (front all : BookFront)
+pub record IsKeeper (v : View) (shown : ReplicaState) (n : Names) (own : ReplicaState) (prefix all : BookPrefix)
     (cs : List Change) (ended : Bool) : Type 0 where
   pub tied : IsTied v shown own (ops_in n cs)
-  pub booked : IsBooked v front all (ops_in n cs)
-  pub ready : ended ≡ true → IsReady v shown n front cs
+  pub booked : IsBooked v prefix all (ops_in n cs)
+  pub ready : ended ≡ true → IsReady v shown n prefix cs

@@ -41,41 +41,41 @@ use Rattle.rr_desk.specs.Histories.{HistoryStep, elsewhere, put, joined, History
 -- knowledge with no gaps
 abbrev pub OperationsAreKnown : Type 0
 OperationsAreKnown =
-    (h : ReplicaState) (z : HistoryState) (turns : List HistoryStep) → Knows h z → AreHonest h.schema h.origin z turns
-    → AllAccepted h (ops_of turns)
-    → Knows (fold step h (ops_of turns)) (scene_after h z turns)
+    (h : ReplicaState) (z : HistoryState) (steps : List HistoryStep) → Knows h z → AreHonest h.schema h.origin z steps
+    → AllAccepted h (ops_of steps)
+    → Knows (fold step h (ops_of steps)) (scene_after h z steps)
 
 -- so the operations of a desk make the cells of such a knowledge
 abbrev pub ListsAreKnown : Type 0
-ListsAreKnown = (h : ReplicaState) (z : HistoryState) (turns : List HistoryStep) → IsHistory h z turns
-    → outcome_of h.schema (list_of h turns) ≡ cells_of_knowledge h.schema (scene_after h z turns).known
+ListsAreKnown = (h : ReplicaState) (z : HistoryState) (steps : List HistoryStep) → IsHistory h z steps
+    → outcome_of h.schema (list_of h steps) ≡ cells_of_knowledge h.schema (scene_after h z steps).known
 
 -- a reader, which has seen a beginning of them, has seen those of a beginning of what happened
 abbrev pub BeginningsAreHistories : Type 0
 BeginningsAreHistories =
-    (h : ReplicaState) (z : HistoryState) (turns : List HistoryStep) (list : List Op) → IsHistory h z turns
-    → IsPrefix (joins_of h.cells) list → IsPrefix list (list_of h turns)
-    → (first : List HistoryStep) × IsPrefix first turns × IsHistory h z first × (list ≡ list_of h first)
+    (h : ReplicaState) (z : HistoryState) (steps : List HistoryStep) (list : List Op) → IsHistory h z steps
+    → IsPrefix (joins_of h.cells) list → IsPrefix list (list_of h steps)
+    → (first : List HistoryStep) × IsPrefix first steps × IsHistory h z first × (list ≡ list_of h first)
 
 -- it answers by exactly the samples that are known then
 abbrev pub AnswersAreOfSamples : Type 0
 AnswersAreOfSamples =
-    (h : ReplicaState) (z : HistoryState) (turns : List HistoryStep) (q : Request) → IsHistory h z turns
-    → cells_text h.schema (outcome_of h.schema (list_of h turns)) q
-    ≡ fetch_text h.schema (scene_after h z turns).known q
+    (h : ReplicaState) (z : HistoryState) (steps : List HistoryStep) (q : Request) → IsHistory h z steps
+    → cells_text h.schema (outcome_of h.schema (list_of h steps)) q
+    ≡ fetch_text h.schema (scene_after h z steps).known q
 
 -- and each cell that it gives, or that the keeper saves, is a whole live cell of a closed knowledge
 abbrev pub CellsGivenAreWhole : Type 0
 CellsGivenAreWhole =
-    (h : ReplicaState) (z : HistoryState) (turns : List HistoryStep) (summary : List NamedVersion) → IsHistory h z turns
-    → All (λ e. IsWhole h.schema (scene_after h z turns).world (scene_after h z turns).known (to_cell e))
-    (newer_cells summary (entries (outcome_of h.schema (list_of h turns))))
+    (h : ReplicaState) (z : HistoryState) (steps : List HistoryStep) (summary : List NamedVersion) → IsHistory h z steps
+    → All (λ e. IsWhole h.schema (scene_after h z steps).world (scene_after h z steps).known (to_cell e))
+    (newer_cells summary (entries (outcome_of h.schema (list_of h steps))))
 
 abbrev pub CellsSavedAreWhole : Type 0
 CellsSavedAreWhole =
-    (h : ReplicaState) (z : HistoryState) (turns : List HistoryStep) → IsHistory h z turns
-    → All (λ e. IsWhole h.schema (scene_after h z turns).world (scene_after h z turns).known (to_cell e))
-    (entries (outcome_of h.schema (list_of h turns)))
+    (h : ReplicaState) (z : HistoryState) (steps : List HistoryStep) → IsHistory h z steps
+    → All (λ e. IsWhole h.schema (scene_after h z steps).world (scene_after h z steps).known (to_cell e))
+    (entries (outcome_of h.schema (list_of h steps)))
 
 -- ---- keepers
 
@@ -84,12 +84,12 @@ abbrev pub OpeningIsHistory : Type 0
 OpeningIsHistory = (h : ReplicaState) (z : HistoryState) (b : Book) → Knows h z
     → HasHistory h z [] (keeper_at_opening h b)
 
--- `put`, where a number is left, is a turn
-abbrev pub PutIsATurn : Type 0
-PutIsATurn =
-    (h : ReplicaState) (z : HistoryState) (turns : List HistoryStep) (k : KeeperState) (key : List ℕ) (time value : ℤ)
-    → HasHistory h z turns k → k.next ≤ MAX_NUMBER
-    → HasHistory h z (turns ++ put (record {
+-- `put`, where a number is left, is a step
+abbrev pub PutIsAStep : Type 0
+PutIsAStep =
+    (h : ReplicaState) (z : HistoryState) (steps : List HistoryStep) (k : KeeperState) (key : List ℕ) (time value : ℤ)
+    → HasHistory h z steps k → k.next ≤ MAX_NUMBER
+    → HasHistory h z (steps ++ put (record {
       origin = k.origin;
       number = k.next;
       key = key;
@@ -98,32 +98,32 @@ PutIsATurn =
           value;
     }) ∷ []) (with_put k key time value)
 
--- `write`, where as many numbers are left, is some turns
-abbrev pub WriteIsTurns : Type 0
-WriteIsTurns =
-    (h : ReplicaState) (z : HistoryState) (turns : List HistoryStep) (k : KeeperState) (p : PointView) (time : ℤ)
-    (fields : List (List ℕ × ℤ)) → HasHistory h z turns k → k.next + length fields ≤ MAX_NUMBER + 1
-    → (more : List HistoryStep) × HasHistory h z (turns ++ more) (with_puts k p time fields)
+-- `write`, where as many numbers are left, is some steps
+abbrev pub WriteIsSteps : Type 0
+WriteIsSteps =
+    (h : ReplicaState) (z : HistoryState) (steps : List HistoryStep) (k : KeeperState) (p : PointView) (time : ℤ)
+    (fields : List (List ℕ × ℤ)) → HasHistory h z steps k → k.next + length fields ≤ MAX_NUMBER + 1
+    → (more : List HistoryStep) × HasHistory h z (steps ++ more) (with_puts k p time fields)
 
--- `join_cell`, of a whole cell of the schema, is a turn
-abbrev pub JoinIsATurn : Type 0
-JoinIsATurn =
-    (h : ReplicaState) (z : HistoryState) (turns : List HistoryStep) (k : KeeperState) (known : Knowledge) (c : Cell)
-    → HasHistory h z turns k → IsCellOf k.schema (owned_cell c)
-    → IsWhole h.schema (scene_after h z turns).world known c
-    → HasHistory h z (turns ++ joined known c ∷ []) (with_pending k (Join c))
+-- `join_cell`, of a whole cell of the schema, is a step
+abbrev pub JoinIsAStep : Type 0
+JoinIsAStep =
+    (h : ReplicaState) (z : HistoryState) (steps : List HistoryStep) (k : KeeperState) (known : Knowledge) (c : Cell)
+    → HasHistory h z steps k → IsCellOf k.schema (owned_cell c)
+    → IsWhole h.schema (scene_after h z steps).world known c
+    → HasHistory h z (steps ++ joined known c ∷ []) (with_pending k (Join c))
 
 -- `publish` is none
-abbrev pub PublishIsNoTurn : Type 0
-PublishIsNoTurn = (h : ReplicaState) (z : HistoryState) (turns : List HistoryStep) (k : KeeperState)
-    → HasHistory h z turns k → HasHistory h z turns (with_all_published k)
+abbrev pub PublishIsNoStep : Type 0
+PublishIsNoStep = (h : ReplicaState) (z : HistoryState) (steps : List HistoryStep) (k : KeeperState)
+    → HasHistory h z steps k → HasHistory h z steps (with_all_published k)
 
 -- and what others write leaves the keeper
 abbrev pub OthersWrite : Type 0
 OthersWrite =
-    (h : ReplicaState) (z : HistoryState) (turns : List HistoryStep) (k : KeeperState) (x : Sample)
-    → HasHistory h z turns k → IsHonest h.schema h.origin (scene_after h z turns) (elsewhere x)
-    → HasHistory h z (turns ++ elsewhere x ∷ []) k
+    (h : ReplicaState) (z : HistoryState) (steps : List HistoryStep) (k : KeeperState) (x : Sample)
+    → HasHistory h z steps k → IsHonest h.schema h.origin (scene_after h z steps) (elsewhere x)
+    → HasHistory h z (steps ++ elsewhere x ∷ []) k
 
 -- what a replica with the cells of such a knowledge was saved as is loaded, under an origin that wrote nothing, as one
 -- with these cells again
@@ -147,9 +147,9 @@ RaisedIsKnown =
 
 -- ---- the rule of the two copies
 
--- at each moment each seat has seen a beginning of what the keeper has published, which it has all seen
+-- at each moment each handle has seen a beginning of what the keeper has published, which it has all seen
 abbrev pub SeenIsPublished : Type 0
 SeenIsPublished =
-    (x : CopyState) (views : List View) (seat writer : ℕ) (v w : View) → Keeps x views
-    → get_elem? views seat ≡ some v → get_elem? views writer ≡ some w → w.writes ≡ true
+    (x : CopyState) (views : List View) (handle writer : ℕ) (v w : View) → Keeps x views
+    → get_elem? views handle ≡ some v → get_elem? views writer ≡ some w → w.writes ≡ true
     → IsPrefix v.seen w.seen

@@ -54,7 +54,7 @@ pub record HasSeen (b : Book) (s : Layout) (list : List Op) (r : ReaderState) : 
   pub seen : IsPrefix list r.list
 
 -- a reader's view has the schema
-pub record IsSeated (v : View) (s : Layout) : Type 0 where
+pub record IsOfDesk (v : View) (s : Layout) : Type 0 where
   pub joined : v.joined ≡ true
   pub schema : v.schema ≡ s
 

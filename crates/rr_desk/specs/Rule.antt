@@ -19,7 +19,7 @@ no_desk = record { number = 0; log_name = 0; cells_name = 0 }
 abbrev pub no_layout : Layout
 no_layout = record { step = 0; archives = [] }
 
--- the view of a seat that knows nothing yet
+-- the view of a handle that knows nothing yet
 abbrev pub newcomer : View
 newcomer = record { writes = false; joined = false; schema = no_layout; desk = no_desk; seen = []; told = [] }
 
@@ -27,38 +27,38 @@ newcomer = record { writes = false; joined = false; schema = no_layout; desk = n
 pub record IsShown (x : CopyState) (s : Layout) (b : Book) : Type 0 where
   pub started : x.started ≡ true
   pub schema : x.held.schema ≡ s
-  pub desk : x.front.desk ≡ b
+  pub desk : x.prefix.desk ≡ b
 
 -- what the keeper knows: it has seen all that is published
-pub record IsWriter (x : CopyState) (list : List Op) (writer seat : ℕ) (v : View) : Type 0 where
+pub record IsWriter (x : CopyState) (list : List Op) (writer handle : ℕ) (v : View) : Type 0 where
   pub started : x.started ≡ true
-  pub alone : seat ≡ writer
+  pub alone : handle ≡ writer
   pub all : v.seen ≡ list
 
--- what a seat knows is true of the copy and of the list that the seat `writer` has published
-pub record Fits (x : CopyState) (list : List Op) (writer seat : ℕ) (v : View) : Type 0 where
+-- what a handle knows is true of the copy and of the list that the handle `writer` has published
+pub record Fits (x : CopyState) (list : List Op) (writer handle : ℕ) (v : View) : Type 0 where
   pub seen : IsPrefix v.seen list
   pub told : IsPrefix v.told list
   pub joined : v.joined ≡ true → IsShown x v.schema v.desk
-  pub writes : v.writes ≡ true → IsWriter x list writer seat v
+  pub writes : v.writes ≡ true → IsWriter x list writer handle v
 
 -- the copy's cells are what these operations make, and its book has just these
 pub record IsOutcome (x : CopyState) (list : List Op) : Type 0 where
   pub cells : x.held.cells ≡ outcome_of x.held.schema list
-  pub book : flat x.front.editions ≡ list
+  pub book : flat x.prefix.editions ≡ list
 
--- there is one list: the copy is its outcome, and all that seats have seen and were told are beginnings of it
+-- there is one list: the copy is its outcome, and all that handles have seen and were told are beginnings of it
 pub record Keeps (x : CopyState) (views : List View) : Type 0 where
   pub list : List Op
   pub writer : ℕ
   pub unopened : x.started ≡ false → list ≡ []
   pub outcome : x.started ≡ true → IsOutcome x list
-  pub each : (seat : ℕ) (v : View) → get_elem? views seat ≡ some v → Fits x list writer seat v
+  pub each : (handle : ℕ) (v : View) → get_elem? views handle ≡ some v → Fits x list writer handle v
 
 -- ---- what steps tell
 
 -- all but what was seen is as before
-pub record IsSameSeat (v w : View) : Type 0 where
+pub record IsSameHandle (v w : View) : Type 0 where
   pub writes : w.writes ≡ v.writes
   pub joined : w.joined ≡ v.joined
   pub schema : w.schema ≡ v.schema
@@ -71,7 +71,7 @@ pub record Sees (v : View) (x : CopyState) (w : View) : Type 0 where
   pub told : IsPrefix v.told w.seen
   pub outcome : v.joined ≡ true → IsOutcome x w.seen
   pub shown : v.joined ≡ true → IsShown x v.schema v.desk
-  pub same : IsSameSeat v w
+  pub same : IsSameHandle v w
 
 -- the keeper's view when it opens a desk with what a replica holds
 abbrev pub keeper_of : ReplicaState → Book → View
@@ -106,7 +106,7 @@ with_news v w = record {
 -- what is seen begins with what was seen
 pub record Saw (v w : View) : Type 0 where
   pub seen : IsPrefix v.seen w.seen
-  pub same : IsSameSeat v w
+  pub same : IsSameHandle v w
 
 -- it was read under the rule, and this is said of the answer
 pub record Reads (v w : View) (Answer : Type 0) : Type 0 where
@@ -117,4 +117,4 @@ pub record Reads (v w : View) (Answer : Type 0) : Type 0 where
 pub record Looked (v w : View) : Type 0 where
   pub seen : IsPrefix v.seen w.seen
   pub told : IsPrefix v.told w.seen
-  pub same : IsSameSeat v w
+  pub same : IsSameHandle v w

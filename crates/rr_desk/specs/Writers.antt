@@ -12,8 +12,8 @@ use Rattle.rr_replica.specs.ReplicaWithRoom.{ReplicaWithRoom, replica_state}
 use Rattle.rr_desk.specs.declared.change.Change.{Change}
 use Rattle.rr_desk.specs.declared.rule.View.{View}
 use Rattle.rr_desk.specs.declared.shown.Shown.{Shown}
-use Rattle.rr_desk.specs.Changes.{Names, front_after, names_at, names_of, ops_in}
-use Rattle.rr_desk.specs.Editions.{BookFront}
+use Rattle.rr_desk.specs.Changes.{Names, prefix_after, names_at, names_of, ops_in}
+use Rattle.rr_desk.specs.Editions.{BookPrefix}
 use Rattle.rr_desk.specs.KeeperState.{IsReady}
 use Rattle.rr_desk.specs.Rule.{with_published}
 
@@ -26,7 +26,7 @@ pub record IsSameShown {D : Type 0} (old new : Shown D) : Type 0 where
   pub state : replica_state new.replica ≡ replica_state old.replica
   pub keys : new.replica.keys ≡ old.replica.keys
   pub started : new.started ≡ old.started
-  pub front : new.front ≡ old.front
+  pub prefix : new.prefix ≡ old.prefix
 
 module _ {T O V P A S : Type 0} {g : Ghosts T O S} where
   -- the changes that readers do not see yet
@@ -73,7 +73,7 @@ module _ {D P A S : Type 0} {g : Ghosts (Shown D) Change S} where
   -- what is pending can be published
   abbrev pub IsPublishable : Writer (Shown D) Change View P A S g → Type 0
   IsPublishable w = IsReady (view w.desk.place) (replica_state w.desk.shown.value.replica) (shown_names w)
-      w.desk.shown.value.front (changes w)
+      w.desk.shown.value.prefix (changes w)
 
   -- what was pending is published, and nothing is pending
   abbrev pub HasPublished : Writer (Shown D) Change View P A S g → Writer (Shown D) Change View P A S g → Type 0
@@ -81,7 +81,7 @@ module _ {D P A S : Type 0} {g : Ghosts (Shown D) Change S} where
       × (changes new ≡ [])
       × (replica_state new.desk.shown.value.replica
       ≡ fold step (replica_state old.desk.shown.value.replica) (pending_ops old))
-      × (new.desk.shown.value.front ≡ front_after old.desk.shown.value.front (changes old))
+      × (new.desk.shown.value.prefix ≡ prefix_after old.desk.shown.value.prefix (changes old))
       × (shown_names new ≡ names_at (shown_names old) (changes old))
 
   -- readers see what they saw, and the same changes are pending
@@ -95,4 +95,4 @@ pub record AddsKeys {D P A S : Type 0} {g : Ghosts (Shown D) Change S} (old new 
     : Type 0 where
   pub desk : new.desk ≡ old.desk
   pub pending : ops_in (shown_names old) (changes new) ≡ pending_ops old
-  pub front : (s : BookFront) → front_after s (changes new) ≡ front_after s (changes old)
+  pub prefix : (s : BookPrefix) → prefix_after s (changes new) ≡ prefix_after s (changes old)

@@ -1,7 +1,7 @@
 //! The book of a desk: what each edition adds. Only the number of editions is in memory.
 //!
 //! An edition is what one publication adds. [`Editions`], which the keeper owns, counts them in one
-//! word; a [`Front`] is a beginning of the book that was seen. It may go to any thread, and two of
+//! word; a [`Prefix`] is a beginning of the book that was seen. It may go to any thread, and two of
 //! them can be compared: of two beginnings of one list the shorter begins the longer.
 ghost use Rattle.std.specs.Prelude.{◌≡◌, [], ◌∷◌, ◌++◌, length, nat_le, IsTrue, IfOk, OnErr, OnOk};
 ghost use mathlib.Core.List.{IsPrefix};
@@ -96,36 +96,36 @@ impl Model for DeskName {
 
 /// A beginning of a desk's book, as far as it was seen. It takes eight bytes.
 #[derive(Drop)]
-pub struct Front {
+pub struct Prefix {
     count: u64,
     seen: Seen<LinkedList<Op>, u64, Law>,
 }
 
-impl Model for Front {
+impl Model for Prefix {
     ghost use Rattle.std.specs.Prelude.{◌≡◌, length};
-    ghost use Rattle.rr_desk.specs.Editions.{BookFront};
+    ghost use Rattle.rr_desk.specs.Editions.{BookPrefix};
 
-    ghost Value = { BookFront };
+    ghost Value = { BookPrefix };
 
     ghost view = { λ f. record { desk = f.seen.book; editions = f.seen.log } };
 
     ghost invariant = { λ f. f.count ≡ length f.seen.log };
 }
 
-impl Front {
+impl Prefix {
     /// The same beginning once more, without memory.
-    pub fn again(&self) -> Front
+    pub fn again(&self) -> Prefix
         ensures { result ≡ self.now }
     {
-        Front {
+        Prefix {
             count: self.count,
             seen: self.seen.again(),
         }
     }
 
-    /// Whether another front of the same book begins with this one, as it does where it isn't
+    /// Whether another prefix of the same book begins with this one, as it does where it isn't
     /// shorter.
-    pub fn begins(&self, other: &Front) -> bool
+    pub fn begins(&self, other: &Prefix) -> bool
         requires { self.now.desk ≡ other.now.desk }
         ensures length { result ≡ nat_le (length self.now.editions) (length other.now.editions) }
         ensures begins { IsTrue result → IsPrefix self.now.editions other.now.editions }
@@ -135,9 +135,9 @@ impl Front {
         self.count <= other.count
     }
 
-    /// This front and an edition more, which the word counts too. Refused where the word has
+    /// This prefix and an edition more, which the word counts too. Refused where the word has
     /// counted another one, or can count no more.
-    fn next<K: Batch>(&self, head: &Word<LinkedList<Op>, u64, Law>) -> Result<Front, AllocError>
+    fn next<K: Batch>(&self, head: &Word<LinkedList<Op>, u64, Law>) -> Result<Prefix, AllocError>
         requires { head.now ≡ head_of self.now.desk }
         ensures { IfOk result (λ f.
             f ≡ record { desk = self.now.desk; editions = self.now.editions ++ K.batch ∷ [] }) }
@@ -160,7 +160,7 @@ impl Front {
         if found != old {
             return Err(AllocError);
         }
-        Ok(Front { count: new, seen })
+        Ok(Prefix { count: new, seen })
     }
 }
 
@@ -168,18 +168,18 @@ impl Front {
 #[derive(Drop)]
 pub struct Editions {
     head: Word<LinkedList<Op>, u64, Law>,
-    front: Front,
+    prefix: Prefix,
 }
 
 impl Model for Editions {
     ghost use Rattle.std.specs.Prelude.{◌≡◌};
-    ghost use Rattle.rr_desk.specs.Editions.{BookFront, head_of};
+    ghost use Rattle.rr_desk.specs.Editions.{BookPrefix, head_of};
 
-    ghost Value = { BookFront };
+    ghost Value = { BookPrefix };
 
-    ghost view = { λ b. b.front };
+    ghost view = { λ b. b.prefix };
 
-    ghost invariant = { λ b. b.head ≡ head_of b.front.desk };
+    ghost invariant = { λ b. b.head ≡ head_of b.prefix.desk };
 }
 
 impl Editions {
@@ -190,15 +190,15 @@ impl Editions {
         let (seen, mut first, _second) = Seen::open(Start::alone(), 0, 0);
         Editions {
             head: Word::tracked(0, &mut first),
-            front: Front { count: 0, seen },
+            prefix: Prefix { count: 0, seen },
         }
     }
 
-    /// All that it has, as a front.
-    pub fn front(&self) -> Front
+    /// All that it has, as a prefix.
+    pub fn prefix(&self) -> Prefix
         ensures { result ≡ self.now }
     {
-        self.front.again()
+        self.prefix.again()
     }
 
     /// Adds an edition. It could be refused only where another keeper had added one to this book,
@@ -208,8 +208,8 @@ impl Editions {
             (record { desk = self.old.desk; editions = self.old.editions ++ K.batch ∷ [] })
             self.new result }
     {
-        let next = self.front.next::<K>(&self.head)?;
-        self.front = next;
+        let next = self.prefix.next::<K>(&self.head)?;
+        self.prefix = next;
         Ok(())
     }
 }

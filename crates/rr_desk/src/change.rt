@@ -1,6 +1,6 @@
 //! What both copies take in.
 
-use crate::book::Front;
+use crate::book::Prefix;
 use rr_cells::{Cell, Op, Sample};
 use rr_key::SeriesKey;
 use std::alloc::{AllocError, Global};
@@ -19,8 +19,8 @@ pub struct NumberedSample {
     pub value: i64,
 }
 
-/// A cell as it waits for the copies. Most operations are samples, and a cell is many times as large
-/// as a sample: so that no sample takes the memory of one, cells are elsewhere.
+/// A cell as it waits for the copies. Most operations are samples, and a cell is many times as
+/// large as a sample: so that no sample takes the memory of one, cells are elsewhere.
 #[derive(Drop)]
 pub struct NumberedCell {
     /// The number of its series.
@@ -39,7 +39,7 @@ pub enum Change {
     /// A key is added, whose series gets the next number.
     AddKey(SeriesKey),
     /// The copy then has all that is in the book so far, and may be read.
-    Edition(Front),
+    Edition(Prefix),
 }
 
 impl Change {
@@ -48,7 +48,7 @@ impl Change {
     ghost use Rattle.rr_desk.specs.Changes.{IsChangeOf};
 
     /// The change that puts a sample of the series with a number.
-    fn put(series: usize, sample: &Sample) -> Change
+    fn of_sample(series: usize, sample: &Sample) -> Change
         ensures { IsChangeOf series (op.Put sample.now) result }
     {
         Change::Put(NumberedSample {
@@ -72,7 +72,7 @@ impl Change {
         ensures { IfOk result (IsChangeOf series op.now) }
     {
         match op {
-            Op::Put(sample) => Ok(Change::put(series, sample)),
+            Op::Put(sample) => Ok(Change::of_sample(series, sample)),
             Op::Join(cell) => Change::join(alloc, series, cell),
         }
     }

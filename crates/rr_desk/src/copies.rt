@@ -10,11 +10,11 @@ ghost use Rattle.rr_desk.specs.KeeperState.{cells_of, own_replica, keeper_at_ope
 ghost use Rattle.rr_desk.specs.Writers.{changes};
 ghost use Rattle.rr_replica.specs.Becomes.{Becomes};
 
-use crate::book::{Editions, Front};
+use crate::book::{Editions, Prefix};
 use crate::change::Change;
 use crate::naming::name_keys;
+use crate::sampling::shares_rows;
 use crate::shown::{CopyState, Shown};
-use crate::turn::shares_rows;
 use crate::writing::{DeskWriter, end_edition, publish};
 use core::mem::replace_with;
 use left_right::Absorb;
@@ -39,7 +39,8 @@ where
     book: Editions,
     /// How many of the keeper's keys the copies have after the pending changes: the first ones.
     named: usize,
-    /// Whether the last pending operation is followed by the end of an edition that has all of them.
+    /// Whether the last pending operation is followed by the end of an edition that has all of
+    /// them.
     ended: bool,
 }
 
@@ -51,24 +52,24 @@ where
 
     ghost Value = { KeeperState };
 
-    ghost use Rattle.left_right.specs.Sides.{view as seat_view};
+    ghost use Rattle.left_right.specs.Sides.{view as handle_view};
     ghost use Rattle.rr_replica.specs.ReplicaWithRoom.{replica_state};
     ghost use Rattle.rr_desk.specs.Changes.{AreNamed};
     ghost use Rattle.rr_desk.specs.Writers.{changes, pending_ops, shown_names};
 
     ghost view = { λ k. record {
-      desk = (seat_view k.writer.desk.place).desk;
+      desk = (handle_view k.writer.desk.place).desk;
       schema = k.own.schema;
       origin = k.own.origin;
       next = k.own.next;
-      published = (seat_view k.writer.desk.place).seen;
+      published = (handle_view k.writer.desk.place).seen;
       pending = pending_ops k.writer;
     } };
 
-    ghost invariant = { λ k. IsKeeper (seat_view k.writer.desk.place)
+    ghost invariant = { λ k. IsKeeper (handle_view k.writer.desk.place)
         (replica_state k.writer.desk.shown.value.replica)
         (shown_names k.writer) (replica_state k.own)
-        k.writer.desk.shown.value.front k.book (changes k.writer) k.ended
+        k.writer.desk.shown.value.prefix k.book (changes k.writer) k.ended
         × AreNamed (shown_names k.writer) k.own.keys (changes k.writer) k.named };
 }
 
@@ -79,7 +80,7 @@ impl<A: Cells> Copies<A> {
         requires view { view writer.desk.place ≡ keeper_of (replica_state own) book.desk }
         requires copy { replica_state writer.desk.shown.value.replica ≡ replica_state own }
         requires keys { writer.desk.shown.value.replica.keys ≡ own.keys }
-        requires front { writer.desk.shown.value.front ≡ book }
+        requires prefix { writer.desk.shown.value.prefix ≡ book }
         requires pending { changes writer ≡ [] }
         requires book { flat book.editions ≡ joins_of own.cells }
         ensures { result ≡ keeper_at_opening (replica_state own) book.desk }
@@ -163,11 +164,11 @@ impl<A: Cells> Copies<A> {
     }
 
     /// The editions of the copy that is shown.
-    pub fn front(&self) -> Front
+    pub fn prefix(&self) -> Prefix
         ensures desk { result.desk ≡ self.now.desk }
         ensures published { flat result.editions ≡ self.now.published }
     {
-        self.writer.published().front.again()
+        self.writer.published().prefix.again()
     }
 
     /// Gives the replica. It waits for readers that are in a copy; after it no reader enters.

@@ -116,13 +116,13 @@ impl<A: Cells> Keeper<A> {
             .copies
             .replica()
             .known_key_near(self.order.next(), key)?;
-        self.put_at(hint, key, time, value)
+        self.push_sample(hint, key, time, value)
     }
 
     /// Puts a sample of a key as [`Keeper::put`] does, with a hint where its series is. The
     /// operation takes the key over.
     #[inline(always)]
-    pub(crate) fn put_at(
+    pub(crate) fn push_sample(
         &mut self,
         hint: Hint,
         key: SeriesKey,
@@ -253,7 +253,7 @@ impl<A: Cells> Keeper<A> {
         ensures { result ≡ record { desk = self.now.desk; list = self.now.published } }
     {
         Note {
-            front: self.copies.front(),
+            prefix: self.copies.prefix(),
         }
     }
 

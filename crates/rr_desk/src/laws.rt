@@ -1,5 +1,5 @@
 //! The laws of a desk, with no work to do: the functions have empty bodies.
-ghost use Rattle.rr_desk.specs.Laws.{OperationsAreKnown, ListsAreKnown, BeginningsAreHistories, AnswersAreOfSamples, CellsGivenAreWhole, CellsSavedAreWhole, OpeningIsHistory, PutIsATurn, WriteIsTurns, JoinIsATurn, PublishIsNoTurn, OthersWrite, LoadedIsKnown, RaisedIsKnown, SeenIsPublished};
+ghost use Rattle.rr_desk.specs.Laws.{OperationsAreKnown, ListsAreKnown, BeginningsAreHistories, AnswersAreOfSamples, CellsGivenAreWhole, CellsSavedAreWhole, OpeningIsHistory, PutIsAStep, WriteIsSteps, JoinIsAStep, PublishIsNoStep, OthersWrite, LoadedIsKnown, RaisedIsKnown, SeenIsPublished};
 
 /// A desk is opened with a replica whose cells are those of a knowledge without gaps that has all
 /// marks of its own origin. Its keeper puts samples of its own, and joins whole live cells of such
@@ -24,10 +24,10 @@ pub fn readers_answer_from_samples()
 /// above ask of its operations follows from the contracts of the calls.
 pub fn keepers_have_histories()
     ensures opening { OpeningIsHistory }
-    ensures put { PutIsATurn }
-    ensures write { WriteIsTurns }
-    ensures join { JoinIsATurn }
-    ensures publish { PublishIsNoTurn }
+    ensures put { PutIsAStep }
+    ensures write { WriteIsSteps }
+    ensures join { JoinIsAStep }
+    ensures publish { PublishIsNoStep }
     ensures others { OthersWrite }
 {}
 

@@ -22,6 +22,7 @@
 //! says whether a copy has what a note is of.
 #![tactic(auto)]
 
+mod answers;
 mod book;
 mod change;
 mod copies;
@@ -37,13 +38,12 @@ mod points;
 mod read_handle;
 mod reader;
 mod reader_count;
-mod reading;
 mod rule;
 mod samples;
+mod sampling;
 mod shown;
 mod sides;
 mod started;
-mod turn;
 mod writing;
 
 pub use fault::{FetchFault, OpenFault};

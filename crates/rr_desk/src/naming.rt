@@ -9,8 +9,8 @@ use rr_archive::Cells;
 use rr_replica::Replica;
 use std::alloc::AllocError;
 
-/// Adds to the pending changes the keeper's keys that the copies will lack: it is at most one, unless
-/// memory ran out before. `named` says how many they will have.
+/// Adds to the pending changes the keeper's keys that the copies will lack: it is at most one,
+/// unless memory ran out before. `named` says how many they will have.
 #[inline(always)]
 pub fn name_keys<A: Cells>(
     writer: &mut DeskWriter<A>,

@@ -1,13 +1,13 @@
 //! Notes of what was published.
 
-use crate::book::Front;
+use crate::book::Prefix;
 use std::marker::Model;
 
 /// A note of the operations that a keeper had published. Any thread may take it to a reader of the
 /// same desk, which then sees them. It takes eight bytes.
 #[derive(Drop)]
 pub struct Note {
-    pub(crate) front: Front,
+    pub(crate) prefix: Prefix,
 }
 
 impl Model for Note {
@@ -16,5 +16,5 @@ impl Model for Note {
 
     ghost Value = { NoteState };
 
-    ghost view = { λ n. record { desk = n.front.desk; list = flat n.front.editions } };
+    ghost view = { λ n. record { desk = n.prefix.desk; list = flat n.prefix.editions } };
 }

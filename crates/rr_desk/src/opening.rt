@@ -6,7 +6,7 @@ ghost use Rattle.rr_replica.specs.ReplicaWithRoom.{replica_state};
 ghost use Rattle.rr_desk.specs.Editions.{flat};
 ghost use Rattle.rr_desk.specs.Rule.{keeper_of};
 ghost use Rattle.rr_desk.specs.KeeperState.{keeper_at_opening};
-ghost use Rattle.rr_desk.specs.ReaderState.{HasSeen, IsSeated};
+ghost use Rattle.rr_desk.specs.ReaderState.{HasSeen, IsOfDesk};
 ghost use Rattle.rr_desk.specs.Writers.{IsReaderCount, IsSameWriter, ShowsCopy};
 ghost use Rattle.rr_desk.specs.declared.fault.OpenFault.TheVariants.{BadCount};
 
@@ -15,7 +15,7 @@ use crate::copies::Copies;
 use crate::fault::OpenFault;
 use crate::keeper::Keeper;
 use crate::order::Order;
-use crate::read_handle::{Seat, look};
+use crate::read_handle::{JoinedHandle, look};
 use crate::reader::Reader;
 use crate::reader_count::ReaderCount;
 use crate::started::{discard, started_writer};
@@ -28,36 +28,36 @@ use std::alloc::{AllocError, Global};
 use std::sync::Wait;
 
 /// A reader that has seen what is published.
-fn seat<A: Cells>(
+fn joined_reader<A: Cells>(
     writer: &mut DeskWriter<A>,
     alloc: Global,
     schema: &Schema,
 ) -> Result<Reader<A>, AllocError>
-    requires { IsSeated (view writer.old.desk.place) schema.now }
+    requires { IsOfDesk (view writer.old.desk.place) schema.now }
     ensures same { IsSameWriter writer.old writer.new }
     ensures seen { IfOk result (HasSeen (view writer.old.desk.place).desk schema.now
         (view writer.old.desk.place).seen) }
 {
     let schema = schema.copy(alloc)?;
-    let mut handle = writer.factory().reader()?;
-    introduce(writer, &mut handle);
-    match look(handle) {
-        Ok(handle) => Ok(Reader {
+    let mut inner = writer.factory().reader()?;
+    introduce(writer, &mut inner);
+    match look(inner) {
+        Ok(inner) => Ok(Reader {
             schema,
-            seat: Some(Seat { handle }),
+            handle: Some(JoinedHandle { inner }),
         }),
         Err(_) => Err(AllocError),
     }
 }
 
 /// As many readers.
-fn seats<A: Cells>(
+fn joined_readers<A: Cells>(
     writer: &mut DeskWriter<A>,
     alloc: Global,
     schema: &Schema,
     readers: usize,
 ) -> Result<Vec<Reader<A>>, AllocError>
-    requires { IsSeated (view writer.old.desk.place) schema.now }
+    requires { IsOfDesk (view writer.old.desk.place) schema.now }
     ensures same { IsSameWriter writer.old writer.new }
     ensures count { IfOk result (λ all. length all.items ≡ readers) }
     ensures seen { IfOk result (λ all. All (HasSeen (view writer.old.desk.place).desk schema.now
@@ -65,7 +65,7 @@ fn seats<A: Cells>(
 {
     let mut all = Vec::new(alloc);
     for n in 0..readers {
-        all.push(seat(writer, alloc, schema)?)?;
+        all.push(joined_reader(writer, alloc, schema)?)?;
     }
     Ok(all)
 }
@@ -80,7 +80,7 @@ fn begin<A: Cells, R: Wait>(
     ensures view { IfOk result (λ r. view r.0.desk.place
         ≡ keeper_of (replica_state replica.now) r.1.desk) }
     ensures copy { IfOk result (λ r. ShowsCopy replica.now [] r.0) }
-    ensures front { IfOk result (λ r. r.0.desk.shown.value.front ≡ r.1) }
+    ensures prefix { IfOk result (λ r. r.0.desk.shown.value.prefix ≡ r.1) }
     ensures book { IfOk result (λ r. flat r.1.editions ≡ joins_of replica.now.cells) }
     ensures count { IfOk result (λ r. length r.2.items ≡ readers.value) }
     ensures seen { IfOk result (λ r.
@@ -88,7 +88,7 @@ fn begin<A: Cells, R: Wait>(
 {
     let mut book = Editions::open();
     let mut writer = started_writer(alloc, rt, replica, readers, &mut book)?;
-    match seats(&mut writer, alloc, replica.schema(), readers.value) {
+    match joined_readers(&mut writer, alloc, replica.schema(), readers.value) {
         Ok(all) => Ok((writer, book, all)),
         Err(_) => Err(discard(writer, rt)),
     }

@@ -3,7 +3,7 @@
 use rr_replica::Hint;
 use std::alloc::Global;
 
-/// For each series, the one that came after it the last time: whoever sends readings mostly sends
+/// For each series, the one that came after it the last time: whoever sends samples mostly sends
 /// them in one order.
 ///
 /// These are hints, on which no answer depends. A series that memory is refused for has no

@@ -9,7 +9,7 @@ use crate::keeper::Keeper;
 use rr_archive::Cells;
 use rr_key::SeriesKey;
 use rr_point::Point;
-use rr_replica::{Hint, PutFault, Sink, WriteFault, is_ahead, put_point};
+use rr_replica::{Hint, PutFault, Sink, WriteFault, is_ahead, write_point};
 use std::mem::replace;
 
 impl<A: Cells> Sink for Keeper<A> {
@@ -57,7 +57,7 @@ impl<A: Cells> Keeper<A> {
     {
         let alloc = self.alloc;
         let mut text = replace(&mut self.text, Vec::new(alloc));
-        let written = put_point(self, &mut text, alloc, point, now, lead);
+        let written = write_point(self, &mut text, alloc, point, now, lead);
         self.text = text;
         written
     }
@@ -89,7 +89,7 @@ impl<A: Cells> Keeper<A> {
         if self.copies.replica().lacks_numbers(1) {
             return Err(WriteFault::NumbersSpent);
         }
-        match self.put_at(hint, key, time.unwrap_or(now), value) {
+        match self.push_sample(hint, key, time.unwrap_or(now), value) {
             Ok(_) => Ok(()),
             Err(_) => Err(WriteFault::Memory { put: 0 }),
         }

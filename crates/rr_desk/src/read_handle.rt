@@ -5,52 +5,55 @@ ghost use Rattle.left_right.specs.Sides.{view};
 ghost use Rattle.rr_desk.specs.Editions.{flat};
 ghost use Rattle.rr_desk.specs.Rule.{Looked, Reads};
 
-use crate::book::Front;
+use crate::book::Prefix;
 use crate::rule::{Enters, Published, View};
 use crate::shown::Shown;
 use left_right::reader::Reader;
 use rr_archive::Cells;
 use std::alloc::AllocError;
 
-/// A reader's handle of the copies, which is at a seat of their table.
+/// A reader's handle of the copies, with a place in their table.
 pub type ReadHandle<A> = Reader<Shown<A>, View, Published>;
 
 /// A handle that knows its desk: the keeper has told it.
 #[derive(Drop)]
-pub struct Seat<A: Cells> {
-    pub(crate) handle: ReadHandle<A>,
-    ghost joined: { (view handle.place).joined ≡ true },
+pub struct JoinedHandle<A: Cells> {
+    pub(crate) inner: ReadHandle<A>,
+    ghost joined: { (view inner.place).joined ≡ true },
 }
 
 /// Enters and leaves once.
-pub fn look<A: Cells>(seat: ReadHandle<A>) -> Result<ReadHandle<A>, ReadHandle<A>>
+pub fn look<A: Cells>(handle: ReadHandle<A>) -> Result<ReadHandle<A>, ReadHandle<A>>
     ensures { MatchResult result
-        (λ s. Looked (view seat.place) (view s.place))
-        (λ s. view s.place ≡ view seat.place) }
+        (λ s. Looked (view handle.place) (view s.place))
+        (λ s. view s.place ≡ view handle.place) }
 {
-    match seat.enter_as::<Enters>() {
-        Ok(reading) => Ok(reading.leave()),
-        Err(seat) => Err(seat),
+    match handle.enter_as::<Enters>() {
+        Ok(guard) => Ok(guard.leave()),
+        Err(handle) => Err(handle),
     }
 }
 
-/// Enters and leaves once, and says whether what is then seen begins with what a front has.
-pub fn look_for<A: Cells>(seat: Seat<A>, front: &Front) -> (Seat<A>, Result<(), AllocError>)
-    requires { front.now.desk ≡ (view seat.handle.place).desk }
-    ensures { Reads (view seat.handle.place) (view result.0.handle.place)
-        (IfOk result.1 (λ _. IsPrefix (flat front.now.editions)
-        (view result.0.handle.place).seen)) }
+/// Enters and leaves once, and says whether what is then seen begins with what a prefix has.
+pub fn look_for<A: Cells>(
+    handle: JoinedHandle<A>,
+    prefix: &Prefix,
+) -> (JoinedHandle<A>, Result<(), AllocError>)
+    requires { prefix.now.desk ≡ (view handle.inner.place).desk }
+    ensures { Reads (view handle.inner.place) (view result.0.inner.place)
+        (IfOk result.1 (λ _. IsPrefix (flat prefix.now.editions)
+        (view result.0.inner.place).seen)) }
 {
-    match seat.handle.enter_as::<Enters>() {
-        Ok(reading) => {
-            let newer = front.begins(&reading.get().front);
-            let handle = reading.leave();
+    match handle.inner.enter_as::<Enters>() {
+        Ok(guard) => {
+            let newer = prefix.begins(&guard.get().prefix);
+            let inner = guard.leave();
             if newer {
-                (Seat { handle }, Ok(()))
+                (JoinedHandle { inner }, Ok(()))
             } else {
-                (Seat { handle }, Err(AllocError))
+                (JoinedHandle { inner }, Err(AllocError))
             }
         }
-        Err(handle) => (Seat { handle }, Err(AllocError)),
+        Err(inner) => (JoinedHandle { inner }, Err(AllocError)),
     }
 }

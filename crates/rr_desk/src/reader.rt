@@ -12,11 +12,11 @@ ghost use Rattle.rr_fetch.specs.Requests.{request_view, IsFetchable};
 ghost use Rattle.rr_desk.specs.ReaderState.{cells_seen, AnswersSeen};
 ghost use Rattle.rr_desk.specs.Gate.{LetsPass};
 
+use crate::answers::{answer, lacking, listed};
 use crate::fault::FetchFault;
 use crate::gate::Gate;
 use crate::note::Note;
-use crate::read_handle::{Seat, look_for};
-use crate::reading::{answer, lacking, listed};
+use crate::read_handle::{JoinedHandle, look_for};
 use rr_archive::Cells;
 use rr_cells::Cell;
 use rr_delta::Name;
@@ -31,23 +31,23 @@ use std::marker::Model;
 #[derive(Drop)]
 pub struct Reader<A: Cells> {
     pub(crate) schema: Schema,
-    pub(crate) seat: Option<Seat<A>>,
+    pub(crate) handle: Option<JoinedHandle<A>>,
 }
 
 impl<A: Cells> Model for Reader<A> {
-    ghost use Rattle.rr_desk.specs.ReaderState.{ReaderState, IsSeated, view_in};
+    ghost use Rattle.rr_desk.specs.ReaderState.{ReaderState, IsOfDesk, view_in};
 
     ghost Value = { ReaderState };
 
-    ghost use Rattle.left_right.specs.Sides.{view as seat_view};
+    ghost use Rattle.left_right.specs.Sides.{view as handle_view};
 
     ghost view = { λ r. record {
-      desk = (view_in (λ s. seat_view s.handle.place) r.seat).desk;
+      desk = (view_in (λ s. handle_view s.inner.place) r.handle).desk;
       schema = r.schema;
-      list = (view_in (λ s. seat_view s.handle.place) r.seat).seen;
+      list = (view_in (λ s. handle_view s.inner.place) r.handle).seen;
     } };
 
-    ghost invariant = { λ r. IsSeated (view_in (λ s. seat_view s.handle.place) r.seat) r.schema };
+    ghost invariant = { λ r. IsOfDesk (view_in (λ s. handle_view s.inner.place) r.handle) r.schema };
 }
 
 /// A gate that is always open.
@@ -84,11 +84,11 @@ impl<A: Cells> Reader<A> {
         ensures { AnswersSeen self.old self.new
             (IfOk result (λ _. IsPrefix note.list self.new.list)) }
     {
-        let Some(seat) = self.seat.take() else {
+        let Some(handle) = self.handle.take() else {
             unreachable!();
         };
-        let (seat, learned) = look_for(seat, &note.front);
-        self.seat = Some(seat);
+        let (handle, learned) = look_for(handle, &note.prefix);
+        self.handle = Some(handle);
         learned
     }
 
@@ -120,28 +120,28 @@ impl<A: Cells> Reader<A> {
             ≡ cells_text self.new.schema (cells_seen self.new) (request_view request.now))) }
         ensures gate { LetsPass result (G.calls gate.old) (G.calls gate.new) }
     {
-        let Some(seat) = self.seat.take() else {
+        let Some(handle) = self.handle.take() else {
             unreachable!();
         };
-        let (seat, text) = answer(seat, alloc, request, gate);
-        self.seat = Some(seat);
+        let (handle, text) = answer(handle, alloc, request, gate);
+        self.handle = Some(handle);
         text
     }
 
     /// The cells whose name a summary lacks, or has with a smaller version, in the order of their
     /// names, after the operations that the reader has seen when the call returns. The names of the
-    /// summary strictly ascend. The cost is that of [`rr_delta::difference`]; the keeper may wait for
-    /// it only where keys have less than eight cells in the mean, or memory is short.
+    /// summary strictly ascend. The cost is that of [`rr_delta::difference`]; the keeper may wait
+    /// for it only where keys have less than eight cells in the mean, or memory is short.
     pub fn difference(&mut self, alloc: Global, summary: &[Name]) -> Result<Vec<Cell>, AllocError>
         requires { IsSummary (map owned_name summary.now) }
         ensures { AnswersSeen self.old self.new (ListsCells self.new.schema
             (newer_cells (map owned_name summary.now) (entries (cells_seen self.new))) result) }
     {
-        let Some(seat) = self.seat.take() else {
+        let Some(handle) = self.handle.take() else {
             unreachable!();
         };
-        let (seat, cells) = lacking(seat, alloc, summary);
-        self.seat = Some(seat);
+        let (handle, cells) = lacking(handle, alloc, summary);
+        self.handle = Some(handle);
         cells
     }
 
@@ -158,11 +158,11 @@ impl<A: Cells> Reader<A> {
         ensures { AnswersSeen self.old self.new (IfOk result (λ keys. keys.items
             ≡ keys_after (lent_key after.entry) count (entries (cells_seen self.new)))) }
     {
-        let Some(seat) = self.seat.take() else {
+        let Some(handle) = self.handle.take() else {
             unreachable!();
         };
-        let (seat, keys) = listed(seat, alloc, after, count);
-        self.seat = Some(seat);
+        let (handle, keys) = listed(handle, alloc, after, count);
+        self.handle = Some(handle);
         keys
     }
 }

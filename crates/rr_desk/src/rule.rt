@@ -10,7 +10,7 @@ use rr_schema::Schema;
 use std::collections::LinkedList;
 use std::marker::PhantomData;
 
-/// What a seat knows, be it the keeper's or a reader's. No value of it is made.
+/// What a handle knows, be it the keeper's or a reader's. No value of it is made.
 pub struct View {
     /// It is the keeper's: nothing is published that it has not seen.
     pub writes: bool,
@@ -33,7 +33,7 @@ impl<A: Cells> Protocol<Shown<A>, View> for Published {
     ghost use Rattle.rr_replica.specs.ReplicaWithRoom.{replica_state};
     ghost use Rattle.rr_desk.specs.Rule.{Keeps, newcomer};
 
-    ghost holds = { λ x. Keeps (record { held = replica_state x.replica; keys = x.replica.keys; started = x.started; front = x.front }) };
+    ghost holds = { λ x. Keeps (record { held = replica_state x.replica; keys = x.replica.keys; started = x.started; prefix = x.prefix }) };
 
     ghost first = { newcomer };
 }
@@ -45,7 +45,7 @@ impl<A: Cells> Outcome<Shown<A>, View> for Enters {
     ghost use Rattle.rr_replica.specs.ReplicaWithRoom.{replica_state};
     ghost use Rattle.rr_desk.specs.Rule.{Sees};
 
-    ghost then = { λ v x y w. Sees v (record { held = replica_state y.replica; keys = y.replica.keys; started = y.started; front = y.front }) w };
+    ghost then = { λ v x y w. Sees v (record { held = replica_state y.replica; keys = y.replica.keys; started = y.started; prefix = y.prefix }) w };
 }
 
 /// The first publication: one join for each cell.
@@ -56,7 +56,7 @@ impl<A: Cells> Outcome<Shown<A>, View> for Opens {
     ghost use Rattle.rr_replica.specs.ReplicaWithRoom.{replica_state};
     ghost use Rattle.rr_desk.specs.Rule.{keeper_of};
 
-    ghost then = { λ v x y w. w ≡ keeper_of (replica_state x.replica) y.front.desk };
+    ghost then = { λ v x y w. w ≡ keeper_of (replica_state x.replica) y.prefix.desk };
 }
 
 /// A publication: the batch comes after what was published before.

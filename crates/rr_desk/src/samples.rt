@@ -29,7 +29,8 @@ impl<A: Cells> Keeper<A> {
     /// fields have these keys, and answers how many.
     ///
     /// Refused as `AheadOfClock`, as `NumbersSpent` and as `Memory` as there. The cost is that of
-    /// the puts; of a series that is where its hint says, the key is compared once and not looked up.
+    /// the puts; of a series that is where its hint says, the key is compared once and not looked
+    /// up.
     pub fn write_samples(
         &mut self,
         values: &[KeyedValue],
@@ -52,11 +53,11 @@ impl<A: Cells> Keeper<A> {
         if self.copies.replica().lacks_numbers(values.len()) {
             return Err(WriteFault::NumbersSpent);
         }
-        self.put_values(values, time.unwrap_or(now))
+        self.write_values(values, time.unwrap_or(now))
     }
 
     /// Puts a sample of each value.
-    fn put_values(&mut self, values: &[KeyedValue], time: i64) -> Result<u32, WriteFault>
+    fn write_values(&mut self, values: &[KeyedValue], time: i64) -> Result<u32, WriteFault>
         requires { length values.now ≤ MAX_FIELDS }
         ensures { PutsFields (length values.now)
             (with_samples self.old time (map keyed_value values.now))
@@ -67,7 +68,7 @@ impl<A: Cells> Keeper<A> {
     {
         let mut put = 0;
         for value in values {
-            if self.put_value(value, time).is_err() {
+            if self.write_value(value, time).is_err() {
                 return Err(WriteFault::Memory { put });
             }
             put += 1;
@@ -76,12 +77,12 @@ impl<A: Cells> Keeper<A> {
     }
 
     /// Puts a sample of a value.
-    fn put_value(&mut self, value: &KeyedValue, time: i64) -> Result<(), AllocError>
+    fn write_value(&mut self, value: &KeyedValue, time: i64) -> Result<(), AllocError>
         ensures state { Becomes self.old (with_put self.old value.now.key time value.now.value)
             self.new result }
     {
         let key = value.key.copy()?;
-        match self.put_at(value.hint, key, time, value.value) {
+        match self.push_sample(value.hint, key, time, value.value) {
             Ok(_) => Ok(()),
             Err(_) => Err(AllocError),
         }

@@ -1,8 +1,8 @@
 //! The two copies of a replica that readers read in turn.
 
-use crate::book::Front;
+use crate::book::Prefix;
 use crate::change::{Change, NumberedCell, NumberedSample};
-use crate::turn::is_drawn;
+use crate::sampling::is_sampled;
 use left_right::Absorb;
 use rr_archive::Cells;
 use rr_key::SeriesKey;
@@ -17,16 +17,16 @@ impl NumberedSample {
     ghost use Rattle.rr_desk.specs.Writers.{AppliesOps};
 
     /// Puts it to a replica, if that takes it. After an error nothing has changed.
-    fn put_to<A: Cells>(&self, replica: &mut Replica<A>) -> Result<(), AllocError>
+    fn apply_to<A: Cells>(&self, replica: &mut Replica<A>) -> Result<(), AllocError>
         ensures { AppliesOps (puts_at replica.old.keys replica.old.origin self.now.series
             self.now.number self.now.time self.now.value) replica.old replica.new result }
     {
-        replica.put_numbered(self.series, self.number, self.time, self.value)
+        replica.apply_put_numbered(self.series, self.number, self.time, self.value)
     }
 
     /// Whether finished rows are looked for after it.
     fn shares_rows(&self) -> bool {
-        is_drawn(self.number)
+        is_sampled(self.number)
     }
 }
 
@@ -49,7 +49,7 @@ impl NumberedCell {
 
     /// Whether finished rows are looked for after it.
     fn shares_rows(&self) -> bool {
-        is_drawn(self.cell.contribution.version)
+        is_sampled(self.cell.contribution.version)
     }
 }
 
@@ -61,7 +61,7 @@ pub struct Shown<A: Cells> {
     /// Whether it has been opened for readers.
     pub started: bool,
     /// The editions that it has.
-    pub front: Front,
+    pub prefix: Prefix,
 }
 
 impl<A: Cells> Shown<A> {
@@ -104,7 +104,7 @@ pub struct CopyState {
     /// Whether it has been opened for readers.
     pub started: bool,
     /// The editions that it has.
-    pub front: Front,
+    pub prefix: Prefix,
 }
 
 impl<A: Cells> Absorb<Change> for Shown<A> {
@@ -117,7 +117,7 @@ impl<A: Cells> Absorb<Change> for Shown<A> {
       held = replica_state s.replica;
       keys = s.replica.keys;
       started = s.started;
-      front = s.front;
+      prefix = s.prefix;
     } };
 
     ghost applied = { copy_after };
@@ -125,7 +125,7 @@ impl<A: Cells> Absorb<Change> for Shown<A> {
     fn absorb_first(&mut self, operation: &Change, _other: &Shown<A>) -> Result<(), AllocError> {
         match operation {
             Change::Put(sample) => {
-                sample.put_to(&mut self.replica)?;
+                sample.apply_to(&mut self.replica)?;
                 if sample.shares_rows() {
                     self.replica.finish_rows(sample.series);
                 }
@@ -137,9 +137,9 @@ impl<A: Cells> Absorb<Change> for Shown<A> {
                 }
             }
             Change::AddKey(key) => self.replica.add_key(key)?,
-            Change::Edition(front) => {
+            Change::Edition(prefix) => {
                 self.started = true;
-                self.front = front.again();
+                self.prefix = prefix.again();
             }
         }
         Ok(())
@@ -147,7 +147,7 @@ impl<A: Cells> Absorb<Change> for Shown<A> {
 
     fn absorb_second(&mut self, operation: Change, other: &Shown<A>) -> Result<(), Change> {
         match operation {
-            Change::Put(sample) => match sample.put_to(&mut self.replica) {
+            Change::Put(sample) => match sample.apply_to(&mut self.replica) {
                 Ok(()) => {
                     self.share_rows(sample.shares_rows(), sample.series, other);
                     Ok(())
@@ -165,9 +165,9 @@ impl<A: Cells> Absorb<Change> for Shown<A> {
                 Ok(()) => Ok(()),
                 Err(_) => Err(Change::AddKey(key)),
             },
-            Change::Edition(front) => {
+            Change::Edition(prefix) => {
                 self.started = true;
-                self.front = front;
+                self.prefix = prefix;
                 Ok(())
             }
         }

@@ -41,12 +41,12 @@ fn unopened<A: Cells>(
     ensures replica { IfOk result (λ copy. replica_state copy.replica ≡ replica_state replica.now) }
     ensures keys { IfOk result (λ copy. copy.replica.keys ≡ replica.now.keys) }
     ensures unopened { IfOk result (λ copy. copy.started ≡ false) }
-    ensures front { IfOk result (λ copy. copy.front ≡ book.now) }
+    ensures prefix { IfOk result (λ copy. copy.prefix ≡ book.now) }
 {
     Ok(Shown {
         replica: replica.copy(alloc)?,
         started: false,
-        front: book.front(),
+        prefix: book.prefix(),
     })
 }
 
@@ -83,14 +83,14 @@ pub fn started_writer<A: Cells, R: Wait>(
     ensures view { IfOk result (λ w. view w.desk.place
         ≡ keeper_of (replica_state replica.now) book.new.desk) }
     ensures copy { IfOk result (ShowsCopy replica.now []) }
-    ensures front { IfOk result (λ w. w.desk.shown.value.front ≡ book.new) }
+    ensures prefix { IfOk result (λ w. w.desk.shown.value.prefix ≡ book.new) }
     ensures book { OnOk result (flat book.new.editions ≡ joins_of replica.now.cells) }
 {
     // The proof needs what the replica keeps to, which `schema` ensures.
     let _schema = replica.schema();
     first_batch::<A, Brand>(book, replica)?;
     let mut writer = unopened_writer(alloc, replica, readers, &*book)?;
-    if writer.append(Change::Edition(book.front())).is_err() {
+    if writer.append(Change::Edition(book.prefix())).is_err() {
         return Err(discard(writer, rt));
     }
     match start(rt, writer, &*book) {

@@ -43,7 +43,7 @@ pub fn start<A: Cells, R: Wait>(
         book.now.desk)
         × (replica_state result.0.desk.shown.value.replica
         ≡ replica_state writer.desk.shown.value.replica)
-        × (result.0.desk.shown.value.front ≡ book.now)
+        × (result.0.desk.shown.value.prefix ≡ book.now)
         × (changes result.0 ≡ [])
         × (result.0.desk.shown.value.replica.keys ≡ writer.desk.shown.value.replica.keys))
         (λ _. IsUnpublished writer result.0) }
@@ -118,18 +118,18 @@ pub fn end_edition<A: Cells>(
         return Ok(());
     }
     reach_batch::<A, Brand>(book, &*writer)?;
-    if writer.append(Change::Edition(book.front())).is_err() {
+    if writer.append(Change::Edition(book.prefix())).is_err() {
         return Err(AllocError);
     }
     Ok(())
 }
 
 /// Tells a new reader of the desk, and of what is published.
-pub fn introduce<A: Cells>(writer: &mut DeskWriter<A>, seat: &mut ReadHandle<A>)
-    requires { seat.old.place.table_id ≡ writer.old.desk.place.table_id }
-    ensures news { view seat.new.place ≡ with_news (view seat.old.place)
+pub fn introduce<A: Cells>(writer: &mut DeskWriter<A>, handle: &mut ReadHandle<A>)
+    requires { handle.old.place.table_id ≡ writer.old.desk.place.table_id }
+    ensures news { view handle.new.place ≡ with_news (view handle.old.place)
         (view writer.old.desk.place) }
     ensures same { IsSameWriter writer.old writer.new }
 {
-    seat.learn::<Introduces>(writer.tell::<Introduces>());
+    handle.learn::<Introduces>(writer.tell::<Introduces>());
 }

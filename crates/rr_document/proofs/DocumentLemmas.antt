@@ -13,8 +13,9 @@ use Rattle.rr_document.specs.Document.{archive_in, archives_in}
 use Rattle.rr_text.specs.Results.{◌>>=◌}
 
 -- the archives so far, and those of the tables that are left
-abbrev pub with_front : List ArchiveSpec → Result (List ArchiveSpec) SchemaFault → Result (List ArchiveSpec) SchemaFault
-with_front front rest = rest >>= λ archives. Ok (front ++ archives)
+abbrev pub with_prefix : List ArchiveSpec → Result (List ArchiveSpec) SchemaFault
+    → Result (List ArchiveSpec) SchemaFault
+with_prefix prefix rest = rest >>= λ archives. Ok (prefix ++ archives)
 
 pub next_value : (vs : List Value) (i : ℕ) (v : Value) → i < length vs → v ≡ get_or vs i v
     → items_view (drop i vs) ≡ item (view v) (items_view (drop (i + 1) vs))
@@ -27,29 +28,29 @@ at_table : (v : Value) (ds : Items) (ms : Members) → Some ms ≡ as_table (vie
 unfolding archives_in
 at_table v ds ms e = rw (← e) refl
 
-pub no_table : (front : List ArchiveSpec) (v : Value) (ds : Items) (all : Result (List ArchiveSpec) SchemaFault)
-    → None ≡ as_table (view v) → with_front front (archives_in (item (view v) ds)) ≡ all → all ≡ Err WrongKind
+pub no_table : (prefix : List ArchiveSpec) (v : Value) (ds : Items) (all : Result (List ArchiveSpec) SchemaFault)
+    → None ≡ as_table (view v) → with_prefix prefix (archives_in (item (view v) ds)) ≡ all → all ≡ Err WrongKind
 unfolding archives_in
-no_table front v ds all e h = sym h ∙ rw (← e) refl
+no_table prefix v ds all e h = sym h ∙ rw (← e) refl
 
-pub no_archive : (front : List ArchiveSpec) (v : Value) (ds : Items) (ms : Members) (fault : SchemaFault)
+pub no_archive : (prefix : List ArchiveSpec) (v : Value) (ds : Items) (ms : Members) (fault : SchemaFault)
     (all : Result (List ArchiveSpec) SchemaFault) → Some ms ≡ as_table (view v) → Err fault ≡ archive_in ms
-    → with_front front (archives_in (item (view v) ds)) ≡ all → all ≡ Err fault
-no_archive front v ds ms fault all is bad h = sym h ∙ ap (with_front front) (at_table v ds ms is) ∙ rw (← bad) refl
+    → with_prefix prefix (archives_in (item (view v) ds)) ≡ all → all ≡ Err fault
+no_archive prefix v ds ms fault all is bad h = sym h ∙ ap (with_prefix prefix) (at_table v ds ms is) ∙ rw (← bad) refl
 
-regroup : (front : List ArchiveSpec) (a : ArchiveSpec) (rest : Result (List ArchiveSpec) SchemaFault)
-    → with_front front (rest >>= λ archives. Ok (a ∷ archives)) ≡ with_front (front ++ a ∷ []) rest
-regroup front a (Ok xs) = ap (λ (ys : List ArchiveSpec). Ok ys) (sym (append_assoc front (a ∷ []) xs))
-regroup front a (Err fault) = refl
+regroup : (prefix : List ArchiveSpec) (a : ArchiveSpec) (rest : Result (List ArchiveSpec) SchemaFault)
+    → with_prefix prefix (rest >>= λ archives. Ok (a ∷ archives)) ≡ with_prefix (prefix ++ a ∷ []) rest
+regroup prefix a (Ok xs) = ap (λ (ys : List ArchiveSpec). Ok ys) (sym (append_assoc prefix (a ∷ []) xs))
+regroup prefix a (Err fault) = refl
 
-pub one_more_archive : (front : List ArchiveSpec) (v : Value) (ds : Items) (ms : Members) (a : ArchiveSpec)
+pub one_more_archive : (prefix : List ArchiveSpec) (v : Value) (ds : Items) (ms : Members) (a : ArchiveSpec)
     (all : Result (List ArchiveSpec) SchemaFault) → Some ms ≡ as_table (view v) → Ok a ≡ archive_in ms
-    → with_front front (archives_in (item (view v) ds)) ≡ all → with_front (front ++ a ∷ []) (archives_in ds) ≡ all
-one_more_archive front v ds ms a all is read h =
-    sym (regroup front a (archives_in ds)) ∙ sym (ap (with_front front) (at_table v ds ms is) ∙ rw (← read) refl) ∙ h
+    → with_prefix prefix (archives_in (item (view v) ds)) ≡ all → with_prefix (prefix ++ a ∷ []) (archives_in ds) ≡ all
+one_more_archive prefix v ds ms a all is read h =
+    sym (regroup prefix a (archives_in ds)) ∙ sym (ap (with_prefix prefix) (at_table v ds ms is) ∙ rw (← read) refl) ∙ h
 
-pub no_more : (front : List ArchiveSpec) (vs : List Value) (i : ℕ) (all : Result (List ArchiveSpec) SchemaFault)
-    → length vs ≤ i → with_front front (archives_in (items_view (drop i vs))) ≡ all → all ≡ Ok front
+pub no_more : (prefix : List ArchiveSpec) (vs : List Value) (i : ℕ) (all : Result (List ArchiveSpec) SchemaFault)
+    → length vs ≤ i → with_prefix prefix (archives_in (items_view (drop i vs))) ≡ all → all ≡ Ok prefix
 unfolding archives_in
-no_more front vs i all le h = sym h ∙ rw (drop_of_length-le vs le)
-    (ap (λ (xs : List ArchiveSpec). Ok xs) (append-nil front))
+no_more prefix vs i all le h = sym h ∙ rw (drop_of_length-le vs le)
+    (ap (λ (xs : List ArchiveSpec). Ok xs) (append-nil prefix))

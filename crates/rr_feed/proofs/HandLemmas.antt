@@ -9,7 +9,7 @@ use Rattle.rr_text.specs.Bytes.{HasNoLineFeed}
 use Rattle.rr_feed.specs.Items.{Item, Line, TooLong, pieces, item_of, items_of}
 use Rattle.rr_feed.specs.Feed.{state, HandsOut}
 use Rattle.rr_feed.specs.Next.{IsCut, IsEnd}
-use Rattle.rr_feed.proofs.PieceLemmas.{some_pieces, pieces_line, pieces_last, pieces_front, items_of_line, items_of_long, last_items_line, last_items_none, IsLine-item_of}
+use Rattle.rr_feed.proofs.PieceLemmas.{some_pieces, pieces_line, pieces_last, pieces_prefix, items_of_line, items_of_long, last_items_line, last_items_none, IsLine-item_of}
 
 -- the pieces of what is cut, and of what comes after it
 pieces_cut : (left line rest more : List ℕ) → IsCut left line rest
@@ -40,7 +40,7 @@ too_long_is_handed left ended none long = record {
   first = λ more end may.
       let some = some_pieces more in
       let longer : MAX_LINE < length (left ++ some.0) = omega (arith, length-append left some.0) in
-      ap (items_of end) (pieces_front left more some.0 some.1 none some.2)
+      ap (items_of end) (pieces_prefix left more some.0 some.1 none some.2)
       ∙ items_of_long end (left ++ some.0) some.1 longer
       ∙ ap (λ (ps : List (List ℕ)). TooLong ∷ items_of end (drop 1 ps)) (sym some.2);
   none = λ e. absurd cc;
@@ -85,7 +85,7 @@ rest_is_skipped left ended none = record {
   first = λ more end may.
       let some = some_pieces more in
       ap (λ (ps : List (List ℕ)). items_of end (drop 1 ps))
-      (pieces_front left more some.0 some.1 none some.2
+      (pieces_prefix left more some.0 some.1 none some.2
       ∙ ap (λ (ps : List (List ℕ)). (left ++ some.0) ∷ drop 1 ps) (sym some.2));
   none = λ e. ap (λ (ps : List (List ℕ)). items_of ended (drop 1 ps)) (pieces_last left none);
   line = tt;
@@ -109,11 +109,12 @@ line_is_skipped left line rest new ended skipping item cut hands = record {
   few = hands.few;
 }
 
-end_of : (left front rest : List ℕ) → left ≡ front ++ rest → IsEnd left rest
-end_of left front rest e =
-    let n : length left - length rest ≡ length front = omega (arith, ap length e, length-append front rest) in record {
-      within = omega (arith, ap length e, length-append front rest);
-      same = sym (ap (λ (k : ℕ). drop k left) n ∙ ap (drop (length front)) e ∙ drop-append_seam front rest);
+end_of : (left prefix rest : List ℕ) → left ≡ prefix ++ rest → IsEnd left rest
+end_of left prefix rest e =
+    let n : length left - length rest ≡ length prefix =
+        omega (arith, ap length e, length-append prefix rest) in record {
+      within = omega (arith, ap length e, length-append prefix rest);
+      same = sym (ap (λ (k : ℕ). drop k left) n ∙ ap (drop (length prefix)) e ∙ drop-append_seam prefix rest);
     }
 
 pub IsEnd-cut : (left line rest : List ℕ) → IsCut left line rest → IsEnd left rest

@@ -40,13 +40,13 @@ pub pieces_last : (last : List ℕ) → HasNoLineFeed last → pieces last ≡ l
 pieces_last last none = slice_split_none (λ b. eqb b LINE_FEED) last (none_is_line_feed last none)
 
 -- bytes with no line feed go in front of the first piece of what comes after them
-pub pieces_front : (front bytes first : List ℕ) (rest : List (List ℕ)) → HasNoLineFeed front
-    → pieces bytes ≡ first ∷ rest → pieces (front ++ bytes) ≡ (front ++ first) ∷ rest
-pieces_front [] bytes first rest none e = e
-pieces_front (byte ∷ front) bytes first rest none e =
+pub pieces_prefix : (prefix bytes first : List ℕ) (rest : List (List ℕ)) → HasNoLineFeed prefix
+    → pieces bytes ≡ first ∷ rest → pieces (prefix ++ bytes) ≡ (prefix ++ first) ∷ rest
+pieces_prefix [] bytes first rest none e = e
+pieces_prefix (byte ∷ prefix) bytes first rest none e =
     let parts = or_parts _ _ none in
-    slice_split-cons_no (λ b. eqb b LINE_FEED) byte (front ++ bytes) parts.0
-    ∙ ap (onto_first byte) (pieces_front front bytes first rest parts.1 e)
+    slice_split-cons_no (λ b. eqb b LINE_FEED) byte (prefix ++ bytes) parts.0
+    ∙ ap (onto_first byte) (pieces_prefix prefix bytes first rest parts.1 e)
 
 -- the items of a piece and of pieces after it
 pub items_of_line : (ended : Bool) (piece bytes : List ℕ)

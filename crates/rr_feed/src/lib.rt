@@ -22,7 +22,9 @@ pub mod laws;
 mod left;
 mod line;
 mod next;
+mod piece;
 
 pub use fault::FeedFault;
 pub use feed::Feed;
 pub use line::{FeedLine, LINE_TOO_LONG};
+pub use piece::PIECE;

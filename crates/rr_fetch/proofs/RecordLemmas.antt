@@ -15,11 +15,11 @@ regrouped : (old key start value : List ℕ) → (old ++ (key ++ 44 ∷ [])) ++ 
     ++ (key ++ 44 ∷ start ++ 44 ∷ value ++ 10 ∷ [])
 regrouped old key start value = simp append_assoc
 
--- the front of a record and the rest of it
-pub front_and_rest : (old key front : List ℕ) (start : ℤ) (value : Option ℤ) → FitsSigned w64 start
-    → IfSome value (FitsSigned w64) → front ≡ field_text key ++ comma ∷ []
-    → (old ++ front) ++ (signed_decimal start ++ comma ∷ value_text value ++ line_feed ∷ []) ≡ old
+-- the prefix of a record and the rest of it
+pub prefix_and_rest : (old key prefix : List ℕ) (start : ℤ) (value : Option ℤ) → FitsSigned w64 start
+    → IfSome value (FitsSigned w64) → prefix ≡ field_text key ++ comma ∷ []
+    → (old ++ prefix) ++ (signed_decimal start ++ comma ∷ value_text value ++ line_feed ∷ []) ≡ old
     ++ record_text key (start, value)
-front_and_rest old key front start value fits values is =
+prefix_and_rest old key prefix start value fits values is =
     rw (is, plain_signed start fits, plain_value value values)
     (regrouped old (field_text key) (signed_decimal start) (value_text value))

@@ -1,5 +1,5 @@
--- The text of a record, in CSV's own words, and of a refusal.
-use Rattle.std.specs.Prelude.{ℕ, List, [], ◌∷◌, ◌++◌, codes, decimal, IsFalse}
+-- The text of a record, in CSV's own words.
+use Rattle.std.specs.Prelude.{ℕ, List, [], ◌∷◌, ◌++◌, IsFalse}
 use Rattle.std.specs.List.{list_any}
 use Rattle.rr_cells.specs.FetchText.{comma, double_quote, field_text, is_special, line_feed}
 
@@ -19,7 +19,3 @@ record_text (first ∷ next ∷ more) = field_text first ++ rest_text (next ∷ 
 -- a text that CSV writes as it is
 abbrev pub IsPlain : List ℕ → Type 0
 IsPlain text = IsFalse (list_any is_special text)
-
--- line N: NAME, which says that the line of this number is refused
-abbrev pub refusal_text : ℕ → List ℕ → List ℕ
-refusal_text number name = codes "line " ++ decimal number ++ codes ": " ++ name ++ line_feed ∷ []

@@ -3,7 +3,7 @@
 ghost use Rattle.std.specs.Prelude.{◌≡◌, ◌*◌, ◌<◌, ◌≤◌, ◌+◌, ◌-◌, ◌^◌, min, ◌+ℤ◌, ◌*ℤ◌, pos, unsigned_abs, [], ◌∷◌, length, Err, IfOk, IfSome, OnOk, MatchOption};
 ghost use Rattle.std.specs.FinMap.{empty};
 ghost use Rattle.std.specs.Vec.{vec_capacity};
-ghost use Rattle.rr_io.specs.Stream.{HasFailed, KeepsFailures, WritesFront, WritesWhole};
+ghost use Rattle.rr_io.specs.Stream.{HasFailed, KeepsFailures, WritesPrefix, WritesWhole};
 ghost use Rattle.rr_archive.specs.Cells.{ArchiveCells, row_of};
 ghost use Rattle.rr_fetch.specs.Answers.{cells_text};
 ghost use Rattle.rr_fetch.specs.Consolidation.{consolidation_of, IsRow};
@@ -12,7 +12,7 @@ ghost use Rattle.rr_fetch.specs.declared.record.TheConstants.{MAX_REST};
 
 use crate::consolidation::{consolidate, consolidate_one};
 use crate::fault::AnswerFault;
-use crate::plain::front_of;
+use crate::plain::prefix_of;
 use crate::record::{MAX_REST, push_row};
 use crate::request::Request;
 use rr_archive::{Cells, Entry};
@@ -102,12 +102,12 @@ fn value_at<A: Cells>(
 
 /// An empty text with room for as many rows, of the longest records behind what each begins with,
 /// and no more.
-fn text_for(alloc: Global, front: &[u8], rows: u32) -> Result<Vec<u8>, AllocError>
+fn text_for(alloc: Global, prefix: &[u8], rows: u32) -> Result<Vec<u8>, AllocError>
     ensures empty { IfOk result (λ text. text.items ≡ []) }
     ensures room { IfOk result (λ text. vec_capacity text
-        ≡ min ((length front.now + MAX_REST) * rows) (2 ^ 64 - 1)) }
+        ≡ min ((length prefix.now + MAX_REST) * rows) (2 ^ 64 - 1)) }
 {
-    let room = (front.len() + MAX_REST).saturating_mul(rows as usize);
+    let room = (prefix.len() + MAX_REST).saturating_mul(rows as usize);
     Vec::with_capacity(alloc, room)
 }
 
@@ -131,8 +131,8 @@ pub fn answer_text<A: Cells>(
     let schema = replica.schema();
     let span = schema.span(request.archive);
     let archive = replica.archive(&request.key, request.archive);
-    let front = front_of(alloc, request.key.text())?;
-    let mut text = text_for(alloc, &front, request.rows)?;
+    let prefix = prefix_of(alloc, request.key.text())?;
+    let mut text = text_for(alloc, &prefix, request.rows)?;
     let mut rest = [0; MAX_REST];
     let mut entries = Vec::new(alloc);
     let mut near = 0;
@@ -140,7 +140,7 @@ pub fn answer_text<A: Cells>(
         let slot = slot_of(request.first, row);
         let start = start_of(slot, span);
         let (value, next) = value_at(archive, slot, near, &mut entries, schema, request)?;
-        push_row(&mut text, &mut rest, &front, start, value)?;
+        push_row(&mut text, &mut rest, &prefix, start, value)?;
         near = next;
     }
     Ok(text)
@@ -160,8 +160,8 @@ pub fn answer<A: Cells, W: Write>(
     ensures whole { OnOk result (WritesWhole W.contents output.old output.new
         (cells_text replica.now.schema replica.now.cells (request_view request.now))) }
     ensures nothing { result ≡ Err AnswerFault.Memory → output.new ≡ output.old }
-    ensures front { result ≡ Err AnswerFault.WriteFailed
-        → WritesFront W.contents output.old output.new (cells_text replica.now.schema
+    ensures prefix { result ≡ Err AnswerFault.WriteFailed
+        → WritesPrefix W.contents output.old output.new (cells_text replica.now.schema
         replica.now.cells (request_view request.now)) }
     ensures failures_never_fall { KeepsFailures output.old output.new }
     ensures failed { result ≡ Err AnswerFault.WriteFailed → HasFailed output.old output.new }

@@ -10,9 +10,8 @@
 //! [`parse_request`] does both. [`consolidate`] makes a row of the entries of its slot, what each
 //! origin contributes to it. [`answer_text`] looks up the entries of each slot of a request in a
 //! replica, and writes a record of CSV for each row, whose first field, the key, it writes once
-//! (`plain`), and whose numbers it writes into a buffer (`digits`); [`answer`] writes that text to a
-//! stream. [`push_plain`] and [`push_refusal`] add other records, and `line N: NAME` for what is
-//! refused.
+//! (`plain`), and whose numbers it writes into a buffer (`digits`); [`answer`] writes that text to
+//! a stream. [`push_plain`] adds other records.
 //!
 //! In `specs/` a request is a function of the bytes, or the first fault that they have
 //! (`specs/Requests.antt`), a row one of the entries (`specs/Consolidation.antt`), the text of a
@@ -28,7 +27,6 @@ mod fault;
 pub mod laws;
 mod plain;
 mod record;
-mod refusal;
 mod request;
 mod sum;
 mod words;
@@ -37,6 +35,5 @@ pub use answering::{answer, answer_text};
 pub use consolidation::consolidate;
 pub use fault::{AnswerFault, RequestFault};
 pub use plain::push_plain;
-pub use refusal::push_refusal;
 pub use request::{Request, parse_request, read_request};
 pub use words::{RequestWords, request_words};

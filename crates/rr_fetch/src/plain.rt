@@ -34,13 +34,13 @@ pub fn push_plain(
 
 /// How each record with this first field begins: the field, in double quotes where CSV wants them,
 /// and a comma. The cost is linear in its bytes.
-pub fn front_of(alloc: Global, first: &[u8]) -> Result<Vec<u8>, AllocError>
-    ensures { IfOk result (λ front. front.items ≡ field_text first.now ++ comma ∷ []) }
+pub fn prefix_of(alloc: Global, first: &[u8]) -> Result<Vec<u8>, AllocError>
+    ensures { IfOk result (λ prefix. prefix.items ≡ field_text first.now ++ comma ∷ []) }
 {
-    let mut front = Vec::new(alloc);
-    push_field(&mut front, first)?;
-    front.extend_from_slice(b",")?;
-    Ok(front)
+    let mut prefix = Vec::new(alloc);
+    push_field(&mut prefix, first)?;
+    prefix.extend_from_slice(b",")?;
+    Ok(prefix)
 }
 
 /// Adds a field, in double quotes where CSV wants them.

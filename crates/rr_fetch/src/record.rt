@@ -50,16 +50,16 @@ fn write_rest(rest: &mut [u8; MAX_REST], start: i64, value: Option<i64>) -> usiz
 pub(crate) fn push_row(
     text: &mut Vec<u8>,
     rest: &mut [u8; MAX_REST],
-    front: &[u8],
+    prefix: &[u8],
     start: i64,
     value: Option<i64>,
 ) -> Result<(), AllocError>
-    ensures { (key : List ℕ) → front.now ≡ field_text key ++ comma ∷ []
+    ensures { (key : List ℕ) → prefix.now ≡ field_text key ++ comma ∷ []
         → OnOk result (text.new.items
         ≡ text.old.items ++ record_text key (start, value)) }
 {
     let from = write_rest(rest, start, value);
     let (_, rest) = rest.split_at(from);
-    text.extend_from_slice(front)?;
+    text.extend_from_slice(prefix)?;
     text.extend_from_slice(rest)
 }

@@ -241,13 +241,13 @@ module _ (limit : ℕ) (s : Layout) (m : Cells) (before : List ℕ) (had left wr
       → IfErr r (CannotSend last.limit (reply_left last.stage))
       → AppendsPrefix wrote written (concat (take last.limit (reply_left last.stage)))
       → IfErr r (HasFailedToGive limit s m before had left wrote written)
-  failed_to_reply (Ok x) same why front = tt
-  failed_to_reply (Err fault) same why front =
+  failed_to_reply (Ok x) same why prefix = tt
+  failed_to_reply (Err fault) same why prefix =
       inr (record {
         last = last;
         heard = heard;
         why = subst (λ (frames : List (List ℕ)). CannotSend limit frames fault) answer
             (subst (λ (n : ℕ). CannotSend n (reply_left last.stage) fault) same why);
-        front = subst (λ (frames : List (List ℕ)). AppendsPrefix wrote written (concat (take limit frames))) answer
-            (subst (λ (n : ℕ). AppendsPrefix wrote written (concat (take n (reply_left last.stage)))) same front);
+        prefix = subst (λ (frames : List (List ℕ)). AppendsPrefix wrote written (concat (take limit frames))) answer
+            (subst (λ (n : ℕ). AppendsPrefix wrote written (concat (take n (reply_left last.stage)))) same prefix);
       })

@@ -7,7 +7,7 @@ use Rattle.rr_gossip.specs.declared.fault.GossipFault.{GossipFault}
 use Rattle.rr_gossip.specs.declared.fault.GossipFault.TheVariants.{Memory}
 use Rattle.rr_gossip.specs.declared.puller.Stage.TheVariants.{Waiting}
 use Rattle.rr_gossip.specs.Fault.{as_body}
-use Rattle.rr_gossip.specs.Puller.{AreFront, Takes, page_taken}
+use Rattle.rr_gossip.specs.Puller.{ArePrefix, Takes, page_taken}
 use Rattle.rr_schema.specs.Schema.{Layout}
 use Rattle.rr_cells.specs.CellBounds.{NamedCell}
 
@@ -16,10 +16,10 @@ on_err (Ok x) P p = tt
 on_err (Err e) P p = p
 
 -- the first of the cells of a page that was read
-pub page_front : (s : Layout) (body : List ℕ) (es : List NamedCell) (n : ℕ) → page_at s body ≡ Ok es
-    → AreFront (take n es) (page_taken s body)
+pub page_prefix : (s : Layout) (body : List ℕ) (es : List NamedCell) (n : ℕ) → page_at s body ≡ Ok es
+    → ArePrefix (take n es) (page_taken s body)
 unfolding page_taken
-page_front s body es n read = record {
+page_prefix s body es n read = record {
   found = ((Waiting, es), false);
   is_read = ap (λ r. as_body r >>= λ (fs : List NamedCell). Ok ((Waiting, fs), false)) read;
   others = drop n es;
@@ -27,7 +27,7 @@ page_front s body es n read = record {
 }
 
 pub memory_taken : {X : Type 0} (joined : List NamedCell → Type 0) (x : X) (r : Result Bool GossipFault)
-    (read : Result ((X × List NamedCell) × Bool) GossipFault) (es : List NamedCell) → r ≡ Err Memory → AreFront es read
+    (read : Result ((X × List NamedCell) × Bool) GossipFault) (es : List NamedCell) → r ≡ Err Memory → ArePrefix es read
     → joined es → Takes joined x r read
-memory_taken joined x r read es is front holds =
-    subst (λ q. Takes joined x q read) (sym is) (inl (refl, inr (es, front, holds)))
+memory_taken joined x r read es is prefix holds =
+    subst (λ q. Takes joined x q read) (sym is) (inl (refl, inr (es, prefix, holds)))

@@ -119,7 +119,8 @@ giver_alone m s g q r fs ds first over all = by_more ds
         (λ (next : Giver × Bool). giver_after m s next.0 (contents cs)) r e in
         absurd (giver_is_over m s q (drop 4 c) one.0 over one.1)
 
-pub puller_alone : (s : Layout) (p : Puller) (had : List NamedCell) (q r : Puller × List NamedCell) (fs ds : List (List ℕ))
+pub puller_alone : (s : Layout) (p : Puller) (had : List NamedCell) (q r : Puller × List NamedCell)
+    (fs ds : List (List ℕ))
     → puller_after s p had (contents fs) ≡ Ok q → q.0.stage ≡ puller.Done
     → puller_after s p had (contents (fs ++ ds)) ≡ Ok r → (ds ≡ []) × (q ≡ r)
 unfolding puller_after
@@ -135,7 +136,8 @@ puller_alone s p had q r fs ds first over all = by_more ds
         absurd (puller_is_over s q.0 (drop 4 c) one.0 over one.1)
 
 -- so of two lists, of which one goes on where the other ends, both are the same
-pub giver_once : (m : Cells) (s : Layout) (g q r : Giver) (fs gs : List (List ℕ)) → giver_after m s g (contents fs) ≡ Ok q
+pub giver_once : (m : Cells) (s : Layout) (g q r : Giver) (fs gs : List (List ℕ))
+    → giver_after m s g (contents fs) ≡ Ok q
     → is_giving q.stage ≡ true → giver_after m s g (contents gs) ≡ Ok r → is_giving r.stage ≡ true → GoesOn fs gs
     → (fs ≡ gs) × (q ≡ r)
 giver_once m s g q r fs gs e e_over f f_over (inl more) =
@@ -145,7 +147,8 @@ giver_once m s g q r fs gs e e_over f f_over (inr more) =
     let a = giver_alone m s g q r fs more.0 e e_over (ap (λ l. giver_after m s g (contents l)) (sym more.1) ∙ f) in
     (sym (more.1 ∙ ap (λ l. fs ++ l) a.0 ∙ append-nil fs), a.1)
 
-pub puller_once : (s : Layout) (p : Puller) (had : List NamedCell) (q r : Puller × List NamedCell) (fs gs : List (List ℕ))
+pub puller_once : (s : Layout) (p : Puller) (had : List NamedCell) (q r : Puller × List NamedCell)
+    (fs gs : List (List ℕ))
     → puller_after s p had (contents fs) ≡ Ok q → q.0.stage ≡ puller.Done → puller_after s p had (contents gs) ≡ Ok r
     → r.0.stage ≡ puller.Done → GoesOn fs gs → (fs ≡ gs) × (q ≡ r)
 puller_once s p had q r fs gs e e_over f f_over (inl more) =

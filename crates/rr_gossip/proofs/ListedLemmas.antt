@@ -13,11 +13,11 @@ use Rattle.rr_gossip.specs.Summary.{summary_text}
 use Rattle.rr_gossip.proofs.SummaryLemmas.{last_push}
 
 -- the name that is taken off the end is the last
-pub popped_is : (front : List Name) (popped : Option Name) → is_some popped ≡ true
-    → last_listed (map owned_name (front ++ option_to_list popped)) ≡ popped
-popped_is front None e = absurd cc
-popped_is front (Some n) e = ap (λ vs. option_map as_name (last_or None vs)) (map_push owned_name front n)
-    ∙ ap (option_map as_name) (last_push None (map owned_name front) (owned_name n))
+pub popped_is : (prefix : List Name) (popped : Option Name) → is_some popped ≡ true
+    → last_listed (map owned_name (prefix ++ option_to_list popped)) ≡ popped
+popped_is prefix None e = absurd cc
+popped_is prefix (Some n) e = ap (λ vs. option_map as_name (last_or None vs)) (map_push owned_name prefix n)
+    ∙ ap (option_map as_name) (last_push None (map owned_name prefix) (owned_name n))
 
 pub listed_is : (names : List Name) (popped : Option Name) (frame : List ℕ) → 1 ≤ length names
     → last_listed (map owned_name names) ≡ popped → frame

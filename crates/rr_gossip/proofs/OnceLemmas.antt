@@ -80,9 +80,9 @@ module _ (frame : List ℕ) (is : IsFrame frame) where
           omega (arith, ltb-false (length (drop 4 frame)) len t, length-drop len (drop 4 frame), ap length rest)
 
   -- is read alone
-  frame_front : (more : List ℕ) → frame_at (frame ++ more) ≡ (Ok (drop 4 frame), more)
+  frame_prefix : (more : List ℕ) → frame_at (frame ++ more) ≡ (Ok (drop 4 frame), more)
   unfolding len
-  frame_front more =
+  frame_prefix more =
       let all = length-append frame more in
       frame_there (frame ++ more) len (drop 4 frame ++ more) long fits
       (omega (arith, length-append (drop 4 frame) more, whole))
@@ -91,15 +91,15 @@ module _ (frame : List ℕ) (is : IsFrame frame) where
       parts : frame ++ more ≡ take 4 frame ++ (drop 4 frame ++ more)
       parts = ap (λ l. l ++ more) (sym (take-append-drop 4 frame)) ∙ append_assoc (take 4 frame) (drop 4 frame) more
 
-      front : length (take 4 frame) ≡ 4
-      front = omega (arith, four, length-take 4 frame)
+      prefix : length (take 4 frame) ≡ 4
+      prefix = omega (arith, four, length-take 4 frame)
 
       long : number_at w32 (frame ++ more) ≡ Ok (from_be_bytes w32 (take 4 frame), drop 4 frame ++ more)
       long =
           number_long (frame ++ more) (omega (arith, length-append frame more, four))
           ∙ (λ i. Ok (
-            from_be_bytes w32 ((ap (take 4) parts ∙ take_at (take 4 frame) (drop 4 frame ++ more) 4 front) i),
-            (ap (drop 4) parts ∙ drop_at (take 4 frame) (drop 4 frame ++ more) 4 front) i,
+            from_be_bytes w32 ((ap (take 4) parts ∙ take_at (take 4 frame) (drop 4 frame ++ more) 4 prefix) i),
+            (ap (drop 4) parts ∙ drop_at (take 4 frame) (drop 4 frame ++ more) 4 prefix) i,
           ))
 
 -- ---- frames in a row
@@ -116,8 +116,8 @@ ok_content : Result (List ℕ) GossipFault → List ℕ
 ok_content (Ok content) = content
 ok_content (Err fault) = []
 
-same_front : (f g x y : List ℕ) → length f ≡ length g → f ++ x ≡ g ++ y → f ≡ g
-same_front f g x y same e = sym (take_at f x (length f) refl) ∙ ap (take (length f)) e
+same_prefix : (f g x y : List ℕ) → length f ≡ length g → f ++ x ≡ g ++ y → f ≡ g
+same_prefix f g x y same e = sym (take_at f x (length f) refl) ∙ ap (take (length f)) e
     ∙ take_at g y (length f) (sym same)
 
 -- where bytes begin with the frames of two lists, one goes on where the other ends
@@ -129,8 +129,8 @@ cut_once (f ∷ fs) [] x y each_f each_g e = inl (f ∷ fs, refl)
 cut_once (f ∷ fs) (g ∷ gs) x y each_f each_g e =
     let bytes : f ++ (concat fs ++ x) ≡ g ++ (concat gs ++ y) = sym (append_assoc f (concat fs) x) ∙ e
     ∙ append_assoc g (concat gs) y in
-    let both = sym (frame_front f each_f.0 (concat fs ++ x)) ∙ ap frame_at bytes
-    ∙ frame_front g each_g.0 (concat gs ++ y) in
+    let both = sym (frame_prefix f each_f.0 (concat fs ++ x)) ∙ ap frame_at bytes
+    ∙ frame_prefix g each_g.0 (concat gs ++ y) in
     let same : drop 4 f ≡ drop 4 g = ap (λ (z : Result (List ℕ) GossipFault × List ℕ). ok_content z.0) both in
     let len : length f ≡ length g = omega (
       arith,
@@ -141,7 +141,7 @@ cut_once (f ∷ fs) (g ∷ gs) x y each_f each_g e =
       ap length same,
     ) in
     let rest = cut_once fs gs x y each_f.1 each_g.1 (ap (λ (z : Result (List ℕ) GossipFault × List ℕ). z.1) both) in
-    subst (λ h. GoesOn (f ∷ fs) (h ∷ gs)) (same_front f g (concat fs ++ x) (concat gs ++ y) len bytes)
+    subst (λ h. GoesOn (f ∷ fs) (h ∷ gs)) (same_prefix f g (concat fs ++ x) (concat gs ++ y) len bytes)
     (goes_on f fs gs rest)
 
 -- ---- the frames of both sides

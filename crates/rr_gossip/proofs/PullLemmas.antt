@@ -29,8 +29,8 @@ use Rattle.rr_gossip.specs.declared.puller.Puller.{Puller}
 use Rattle.rr_gossip.specs.declared.puller.Stage.TheVariants as puller
 use Rattle.rr_gossip.specs.Giver.{first_giver}
 use Rattle.rr_gossip.specs.Pages.{AreLeft}
-use Rattle.rr_gossip.specs.Puller.{AreFront, puller_takes}
-use Rattle.rr_gossip.specs.Session.{GivesAnswer, GivesHearTheNames, HasPulled, PullsBringTheDifference, PullsBringTheJoin, PullsTakeTheReply, PullsUnite, StoppedPullsTakeAFront, is_giving, replied_by, sent_by}
+use Rattle.rr_gossip.specs.Puller.{ArePrefix, puller_takes}
+use Rattle.rr_gossip.specs.Session.{GivesAnswer, GivesHearTheNames, HasPulled, PullsBringTheDifference, PullsBringTheJoin, PullsTakeTheReply, PullsUnite, StoppedPullsTakeAPrefix, is_giving, replied_by, sent_by}
 use Rattle.rr_gossip.specs.Stream.{IsFrame, WasRead}
 use Rattle.rr_gossip.specs.Transcript.{contents, giver_after, puller_after, reply, frames_of_names, waiting}
 use Rattle.rr_gossip.proofs.HeardLemmas as giver
@@ -132,12 +132,12 @@ begins s p had (c ∷ cs) x e =
     let later = begins s one.0.0.0 (had ++ one.0.0.1) cs x one.2 in
     (one.0.0.1 ++ later.0, sym (append_assoc had one.0.0.1 later.0) ∙ later.1)
 
--- frames at the front of a reply have the first of its cells
-front_taken : (s : Layout) (es : List NamedCell) (n limit : ℕ) (frames : List (List ℕ)) (x : Puller × List NamedCell)
+-- frames at the beginning of a reply have the first of its cells
+prefix_taken : (s : Layout) (es : List NamedCell) (n limit : ℕ) (frames : List (List ℕ)) (x : Puller × List NamedCell)
     (rest more : List ℕ) → IsLayout s → AreLeft (s, es)
     → AllByRecursion IsFrame frames → concat frames ++ rest ≡ concat (reply s es) ++ more
     → puller_after s (waiting n 0 limit) [] (contents frames) ≡ Ok x → IsPrefix x.1 es
-front_taken s es n limit frames x rest more is fits each parts taken =
+prefix_taken s es n limit frames x rest more is fits each parts taken =
     by (cut_once frames whole rest more each (reply_are s is es fits) parts)
   where
     whole : List (List ℕ)
@@ -168,10 +168,10 @@ front_taken s es n limit frames x rest more is fits each parts taken =
         ∙ ap (λ (l : List (List ℕ)). puller_after s (waiting n 0 room) [] (contents l)) (sym more.1)
         ∙ expected)
 
-pub stopped_pulls_take_a_front : StoppedPullsTakeAFront
-stopped_pulls_take_a_front s es cells n limit came lost more None fault is fits same stopped =
+pub stopped_pulls_take_a_prefix : StoppedPullsTakeAPrefix
+stopped_pulls_take_a_prefix s es cells n limit came lost more None fault is fits same stopped =
     absurd stopped.read.consumed
-stopped_pulls_take_a_front s es cells n limit came lost more (Some rest) fault is fits same stopped = by stopped.joined
+stopped_pulls_take_a_prefix s es cells n limit came lost more (Some rest) fault is fits same stopped = by stopped.joined
   where
     frames : List (List ℕ)
     frames = stopped.frames
@@ -194,25 +194,26 @@ stopped_pulls_take_a_front s es cells n limit came lost more (Some rest) fault i
         ∙ same
 
     by : (cells ≡ stopped.pages) ⊎ ((fault ≡ Memory) × IsFrame piece
-        × ((front : List NamedCell) × AreFront front (puller_takes s stopped.last (drop 4 piece))
-        × (cells ≡ stopped.pages ++ front))) → IsPrefix cells es
+        × ((prefix : List NamedCell) × ArePrefix prefix (puller_takes s stopped.last (drop 4 piece))
+        × (cells ≡ stopped.pages ++ prefix))) → IsPrefix cells es
     by (inl all) = subst (λ (l : List NamedCell). IsPrefix l es) (sym all)
-        (front_taken s es n limit frames (stopped.last, stopped.pages) (piece ++ behind) more is fits each parts
+        (prefix_taken s es n limit frames (stopped.last, stopped.pages) (piece ++ behind) more is fits each parts
         stopped.taken)
-    by (inr (memory, frame, (front, of, all))) =
+    by (inr (memory, frame, (prefix, of, all))) =
         let next = of.found in
         let taken = frame_taken s (waiting n 0 limit) stopped.last next.0.0 [] stopped.pages frames piece next.0.1
         next.1 stopped.taken of.is_read in
         let longer : concat (frames ++ piece ∷ []) ++ behind ≡ concat (reply s es) ++ more =
         ap (λ (l : List ℕ). l ++ behind) (concat_more frames piece) ∙ append_assoc (concat frames) piece behind
         ∙ parts in
-        let found = front_taken s es n limit (frames ++ piece ∷ []) (next.0.0, stopped.pages ++ next.0.1) behind more is
+        let found = prefix_taken s es n limit (frames ++ piece ∷ []) (next.0.0, stopped.pages ++ next.0.1) behind more
+            is
         fits (recursion_from_All IsFrame (frames ++ piece ∷ [])
         (All-push IsFrame frames piece stopped.read.each frame)) longer taken in
         let pages = stopped.pages in
-        let whole : (pages ++ front) ++ (of.others ++ found.0) ≡ es =
-        sym (append_assoc (pages ++ front) of.others found.0)
-        ∙ ap (λ (l : List NamedCell). l ++ found.0) (append_assoc pages front of.others
+        let whole : (pages ++ prefix) ++ (of.others ++ found.0) ≡ es =
+        sym (append_assoc (pages ++ prefix) of.others found.0)
+        ∙ ap (λ (l : List NamedCell). l ++ found.0) (append_assoc pages prefix of.others
         ∙ ap (λ (l : List NamedCell). pages ++ l) (sym of.parts))
         ∙ found.1 in
         (of.others ++ found.0, ap (λ (l : List NamedCell). l ++ (of.others ++ found.0)) all ∙ whole)

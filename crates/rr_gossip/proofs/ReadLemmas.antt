@@ -16,7 +16,7 @@ use Rattle.rr_gossip.specs.declared.fault.GossipFault.{GossipFault}
 use Rattle.rr_gossip.specs.declared.puller.Puller.{Puller}
 use Rattle.rr_gossip.specs.declared.fault.GossipFault.TheVariants.{ReadFailed, Ended, FrameTooLong, WriteFailed, Memory}
 use Rattle.rr_gossip.specs.declared.frame.TheConstants.{MAX_FRAME_LEN}
-use Rattle.rr_gossip.specs.Puller.{AreFront, Takes, puller_takes}
+use Rattle.rr_gossip.specs.Puller.{ArePrefix, Takes, puller_takes}
 use Rattle.rr_gossip.specs.Stream.{content_from, frame_at, Grows, IsFrame, Stops, WasRead}
 use Rattle.rr_gossip.specs.Transcript.{contents, puller_after}
 use Rattle.rr_gossip.proofs.StreamLemmas.{choice}
@@ -113,12 +113,12 @@ pub puller_stops : (s : Layout) (p x : Puller) (pages : List NamedCell) (joined 
     → Takes joined x (Err fault) (puller_takes s p (drop 4 frame))
     → Stops (puller_takes s p) frame fault × ((cells : List NamedCell) × all cells
     × ((cells ≡ pages) ⊎ ((fault ≡ Memory) × IsFrame frame
-    × ((es : List NamedCell) × AreFront es (puller_takes s p (drop 4 frame)) × (cells ≡ pages ++ es)))))
+    × ((es : List NamedCell) × ArePrefix es (puller_takes s p (drop 4 frame)) × (cells ≡ pages ++ es)))))
 puller_stops s p x pages joined all frame fault after whole (inl (memory, inl none)) =
     (inr (record { frame = whole; why = inl memory }), (pages ++ [], after [] none, inl (append-nil pages)))
-puller_stops s p x pages joined all frame fault after whole (inl (memory, inr (es, front, holds))) = (
+puller_stops s p x pages joined all frame fault after whole (inl (memory, inr (es, prefix, holds))) = (
   inr (record { frame = whole; why = inl memory }),
-  (pages ++ es, after es holds, inr (memory, whole, (es, front, refl))),
+  (pages ++ es, after es holds, inr (memory, whole, (es, prefix, refl))),
 )
 puller_stops s p x pages joined all frame fault after whole (inr (refused, none)) =
     (inr (record { frame = whole; why = inr refused }), (pages ++ [], after [] none, inl (append-nil pages)))

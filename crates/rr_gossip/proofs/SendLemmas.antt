@@ -43,11 +43,11 @@ first_of n before left few =
     let is : length before + k ≡ n = omega (arith, few) in
     (take k left, ap (λ m. take m (before ++ left)) (sym is) ∙ take-append-add before left k)
 
--- those before a frame are, and a front of it
-pub frames_front : (a b c : Option (List ℕ)) (n : ℕ) (all before left : List (List ℕ)) (frame : List ℕ)
+-- those before a frame are, and a prefix of it
+pub frames_prefix : (a b c : Option (List ℕ)) (n : ℕ) (all before left : List (List ℕ)) (frame : List ℕ)
     → all ≡ before ++ frame ∷ left → length before < n → Appends a b (concat before) → AppendsPrefix b c frame
     → AppendsPrefix a c (concat (take n all))
-frames_front a b c n all before left frame is few done part =
+frames_prefix a b c n all before left frame is few done part =
     let one = before ++ frame ∷ [] in
     let first = first_of n one left (omega (arith, few, length-append before (frame ∷ []))) in
     let rest = first.0 in

@@ -1,4 +1,4 @@
--- Frames at the front of bytes.
+-- Frames at the beginning of bytes.
 use Rattle.std.proofs.Common.{◌≡◌, ℕ, ◌+◌, ◌<◌, ◌≤◌, Bool, true, false, List, [], ◌++◌, length, take, drop, Ok, Err, refl, sym, ap, ◌∙◌, inl, inr, arith, take_at, drop_at, append_assoc, subst, Option}
 use Rattle.std.specs.Prelude.{nat_lt, Result, if◌then◌else◌, OnOk, IfErr}
 use Rattle.std.proofs.KnownBytes.{Consumes-trans}

@@ -36,13 +36,14 @@ pub last_push : {A : Type 0} (o : Option A) (xs : List A) (x : A) → last_or o 
 last_push o [] x = refl
 last_push o (y ∷ xs) x = last_push (Some y) xs x
 
-names_push : (front : List NamedVersion) (v : NamedVersion)
-    → map (λ (w : NamedVersion). w.0) (front ++ v ∷ []) ≡ map (λ (w : NamedVersion). w.0) front ++ v.0 ∷ []
+names_push : (prefix : List NamedVersion) (v : NamedVersion)
+    → map (λ (w : NamedVersion). w.0) (prefix ++ v ∷ []) ≡ map (λ (w : NamedVersion). w.0) prefix ++ v.0 ∷ []
 names_push [] v = refl
-names_push (x ∷ front) v = ap (λ (l : List CellName). x.0 ∷ l) (names_push front v)
+names_push (x ∷ prefix) v = ap (λ (l : List CellName). x.0 ∷ l) (names_push prefix v)
 
-pub last_name_push : (front : List NamedVersion) (v : NamedVersion) → last_name (front ++ v ∷ []) ≡ Some v.0
-last_name_push front v = ap (last_or _) (names_push front v) ∙ last_push _ (map (λ (w : NamedVersion). w.0) front) v.0
+pub last_name_push : (prefix : List NamedVersion) (v : NamedVersion) → last_name (prefix ++ v ∷ []) ≡ Some v.0
+last_name_push prefix v = ap (last_or _) (names_push prefix v)
+    ∙ last_push _ (map (λ (w : NamedVersion). w.0) prefix) v.0
 
 pub record AreRead (s : Layout) (old : List NamedVersion) (n : ℕ) (bytes : List ℕ) (new : List NamedVersion)
     (rest : List ℕ) : Type 0 where

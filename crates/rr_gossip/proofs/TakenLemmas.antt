@@ -65,19 +65,19 @@ rising_after old (v ∷ vs) h =
     (λ i. after_last old v vs h i && is_rising (Some v.0) vs) ∙ ap (λ o. is_rising o vs) (sym (last_name_push old v))
     ∙ rest
 
-below_front : (n : CellName) (xs ys : List NamedVersion) → T (below_all cell_name_cmp n (xs ++ ys))
+below_prefix : (n : CellName) (xs ys : List NamedVersion) → T (below_all cell_name_cmp n (xs ++ ys))
     → T (below_all cell_name_cmp n xs)
-below_front n [] ys h = tt
-below_front n (x ∷ xs) ys h = T_and (is_lt (cell_name_cmp n x.0)) (below_all cell_name_cmp n xs)
+below_prefix n [] ys h = tt
+below_prefix n (x ∷ xs) ys h = T_and (is_lt (cell_name_cmp n x.0)) (below_all cell_name_cmp n xs)
     (first_T (is_lt (cell_name_cmp n x.0)) (below_all cell_name_cmp n (xs ++ ys)) h)
-    (below_front n xs ys (second_T (is_lt (cell_name_cmp n x.0)) (below_all cell_name_cmp n (xs ++ ys)) h))
+    (below_prefix n xs ys (second_T (is_lt (cell_name_cmp n x.0)) (below_all cell_name_cmp n (xs ++ ys)) h))
 
 -- the first of names that ascend do
-sorted_front : (xs ys : List NamedVersion) → T (is_sorted cell_name_cmp (xs ++ ys)) → T (is_sorted cell_name_cmp xs)
-sorted_front [] ys h = tt
-sorted_front (x ∷ xs) ys h = T_and (below_all cell_name_cmp x.0 xs) (is_sorted cell_name_cmp xs)
-    (below_front x.0 xs ys (first_T (below_all cell_name_cmp x.0 (xs ++ ys)) (is_sorted cell_name_cmp (xs ++ ys)) h))
-    (sorted_front xs ys (second_T (below_all cell_name_cmp x.0 (xs ++ ys)) (is_sorted cell_name_cmp (xs ++ ys)) h))
+sorted_prefix : (xs ys : List NamedVersion) → T (is_sorted cell_name_cmp (xs ++ ys)) → T (is_sorted cell_name_cmp xs)
+sorted_prefix [] ys h = tt
+sorted_prefix (x ∷ xs) ys h = T_and (below_all cell_name_cmp x.0 xs) (is_sorted cell_name_cmp xs)
+    (below_prefix x.0 xs ys (first_T (below_all cell_name_cmp x.0 (xs ++ ys)) (is_sorted cell_name_cmp (xs ++ ys)) h))
+    (sorted_prefix xs ys (second_T (below_all cell_name_cmp x.0 (xs ++ ys)) (is_sorted cell_name_cmp (xs ++ ys)) h))
 
 -- ---- the side that gives
 
@@ -179,7 +179,7 @@ module _ (m : Cells) (s : Layout) (is : IsLayout s) (limit : ℕ) where
         few = omega arith;
         names = names_all;
         rising =
-            rising_after old piece (sorted_front (old ++ piece) left sorted_parts);
+            rising_after old piece (sorted_prefix (old ++ piece) left sorted_parts);
       } in
       let short = summary_len s piece (omega arith) (recursion_from_All (IsNameOf s) piece names_all) in
       then (Listing old) (Listing (old ++ piece)) kind.Summary (summary_text piece) false taken

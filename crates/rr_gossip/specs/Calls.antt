@@ -7,7 +7,7 @@ use Rattle.rr_text.specs.Results.{GivesUnless}
 use Rattle.rr_schema.specs.Schema.{Layout}
 use Rattle.rr_io.specs.declared.counted.Counted.{Counted}
 use Rattle.rr_io.specs.Counted.{inner_of, failures_of, is_flushed, HasRisen}
-use Rattle.rr_io.specs.Stream.{AppendsPrefix, HasFailed, IsReadOut, KeepsFailures, WritesFront, WritesWhole}
+use Rattle.rr_io.specs.Stream.{AppendsPrefix, HasFailed, IsReadOut, KeepsFailures, WritesPrefix, WritesWhole}
 use Rattle.rr_cells.specs.CellBounds.{NamedCell}
 use Rattle.rr_cells.specs.Cells.{Cells}
 use Rattle.rr_gossip.specs.declared.fault.GossipFault.{GossipFault}
@@ -37,7 +37,7 @@ pub record SendsFrames {W : Type 0} (contents : W → Option (List ℕ)) (old ne
     (frames : List (List ℕ)) (result : Result (Unit {0}) GossipFault) : Type 0 where
   pub whole : OnOk result (WritesWhole contents old new (concat frames))
   pub few : OnOk result (length frames ≤ limit)
-  pub front : WritesFront contents old new (concat (take limit frames))
+  pub prefix : WritesPrefix contents old new (concat (take limit frames))
   pub flushed : OnOk result (is_flushed new ≡ true)
   pub failures_never_fall : KeepsFailures old new
   pub failed : result ≡ Err WriteFailed → HasFailed old new
@@ -109,7 +109,7 @@ pub record Pulls {R W : Type 0} (remaining : R → Option (List ℕ)) (contents 
   -- what is sent
   pub sent : OnOk result (Appends (contents (inner_of output)) (contents (inner_of output_new)) (concat (sent_by s m)))
   pub few : OnOk result (length (sent_by s m) ≤ limit)
-  pub front : AppendsPrefix (contents (inner_of output)) (contents (inner_of output_new))
+  pub prefix : AppendsPrefix (contents (inner_of output)) (contents (inner_of output_new))
       (concat (take limit (sent_by s m)))
   pub flushed : OnOk result (is_flushed output_new ≡ true)
   -- what is read, and which cells are joined, one by one and in order

@@ -123,7 +123,7 @@ puller_takes s p content = do
 -- ---- what is joined
 
 -- the first of the cells of a frame that is read, perhaps all, perhaps none
-pub record AreFront {X : Type 0} (es : List NamedCell) (read : Result ((X × List NamedCell) × Bool) GossipFault)
+pub record ArePrefix {X : Type 0} (es : List NamedCell) (read : Result ((X × List NamedCell) × Bool) GossipFault)
     : Type 0 where
   pub found : (X × List NamedCell) × Bool
   pub is_read : read ≡ Ok found
@@ -136,7 +136,7 @@ abbrev pub Takes : {X : Type 0} → (List NamedCell → Type 0) → X → Result
     → Result ((X × List NamedCell) × Bool) GossipFault → Type 0
 Takes joined x (Ok last) read = (es : List NamedCell) × (read ≡ Ok ((x, es), last)) × joined es
 Takes joined x (Err fault) read =
-    ((fault ≡ why.Memory) × (joined [] ⊎ ((es : List NamedCell) × AreFront es read × joined es)))
+    ((fault ≡ why.Memory) × (joined [] ⊎ ((es : List NamedCell) × ArePrefix es read × joined es)))
     ⊎ ((read ≡ Err fault) × joined [])
 
 -- a session that has failed answers Failed from then on

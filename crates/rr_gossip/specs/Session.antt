@@ -24,7 +24,7 @@ use Rattle.rr_gossip.specs.declared.puller.Puller.{Puller}
 use Rattle.rr_gossip.specs.declared.puller.Stage.TheVariants as puller
 use Rattle.rr_gossip.specs.Giver.{first_giver, giver_takes}
 use Rattle.rr_gossip.specs.Pages.{AreLeft}
-use Rattle.rr_gossip.specs.Puller.{AreFront, puller_takes}
+use Rattle.rr_gossip.specs.Puller.{ArePrefix, puller_takes}
 use Rattle.rr_gossip.specs.Stream.{IsFrame, Stops, WasRead}
 use Rattle.rr_gossip.specs.Transcript.{contents, giver_after, puller_after, reply, frames_of_names, waiting}
 
@@ -59,7 +59,7 @@ pub record HasStoppedPulling (s : Layout) (first : Puller) (had left : Option (L
   pub taken : puller_after s first [] (contents frames) ≡ Ok (last, pages)
   pub stopped : Stops (puller_takes s last) piece fault
   pub joined : (cells ≡ pages) ⊎ ((fault ≡ Memory) × IsFrame piece
-      × ((es : List NamedCell) × AreFront es (puller_takes s last (drop 4 piece)) × (cells ≡ pages ++ es)))
+      × ((es : List NamedCell) × ArePrefix es (puller_takes s last (drop 4 piece)) × (cells ≡ pages ++ es)))
 
 -- not all frames of a target of the cells m were sent, and it read and joined nothing
 pub record HasNotSent (limit : ℕ) (s : Layout) (m : Cells) (had left : Option (List ℕ)) (fault : GossipFault)
@@ -127,13 +127,13 @@ pub record HasGiven (limit : ℕ) (s : Layout) (m : Cells) (before : List ℕ)
   pub few : length (replied_by s heard.names m) ≤ limit
   pub replied : Appends wrote written (concat (replied_by s heard.names m))
 
--- it heard all names, and wrote a front of the answer to them, of no more frames than the session may have
+-- it heard all names, and wrote a prefix of the answer to them, of no more frames than the session may have
 pub record HasNotReplied (limit : ℕ) (s : Layout) (m : Cells) (before : List ℕ)
     (had left wrote written : Option (List ℕ)) (fault : GossipFault) : Type 0 where
   pub last : Giver
   pub heard : HasHeard s m (first_giver limit) last before had left
   pub why : CannotSend limit (replied_by s heard.names m) fault
-  pub front : AppendsPrefix wrote written (concat (take limit (replied_by s heard.names m)))
+  pub prefix : AppendsPrefix wrote written (concat (take limit (replied_by s heard.names m)))
 
 -- it failed: among the names, and wrote nothing, or else among the pages
 abbrev pub HasFailedToGive : ℕ → Layout → Cells → List ℕ → Option (List ℕ) → Option (List ℕ) → Option (List ℕ)
@@ -172,8 +172,8 @@ PullsTakeTheReply =
     → (cells ≡ es) × (left ≡ Some more)
 
 -- one that stopped, and could read a beginning of that at most, has the first of these cells, in order
-abbrev pub StoppedPullsTakeAFront : Type 0
-StoppedPullsTakeAFront =
+abbrev pub StoppedPullsTakeAPrefix : Type 0
+StoppedPullsTakeAPrefix =
     (s : Layout) (es cells : List NamedCell) (n limit : ℕ) (came lost more : List ℕ) (left : Option (List ℕ))
     (fault : GossipFault)
     → IsLayout s → AreLeft (s, es) → came ++ lost ≡ concat (reply s es) ++ more

@@ -1,4 +1,4 @@
--- Frames in a stream: the one at the front of bytes, and those that a side of a session has read.
+-- Frames in a stream: the one at the beginning of bytes, and those that a side of a session has read.
 use Rattle.std.specs.Prelude.{◌≡◌, ◌⊎◌, ℕ, nat_lt, ◌<◌, List, [], ◌++◌, length, take, drop, All, Option, Result, Ok, Err, if◌then◌else◌}
 use Rattle.std.specs.Int.{w32}
 use Rattle.std.specs.Io.KnownBytes.{Consumes}
@@ -9,7 +9,7 @@ use Rattle.rr_gossip.specs.declared.fault.GossipFault.{GossipFault}
 use Rattle.rr_gossip.specs.declared.fault.GossipFault.TheVariants.{ReadFailed, Ended, FrameTooLong, Memory}
 use Rattle.rr_gossip.specs.declared.frame.TheConstants.{MAX_FRAME_LEN}
 
--- ---- the frame at the front
+-- ---- the frame at the beginning
 
 -- as many bytes as a length says, and those after them; or why they are not there
 abbrev pub content_from : Result (ℕ × List ℕ) PageFault → Result (List ℕ) GossipFault × List ℕ
@@ -19,7 +19,7 @@ content_from (Ok (len, rest)) =
     else if nat_lt (length rest) len then (Err Ended, [])
     else (Ok (take len rest), drop len rest)
 
--- what follows the length of the frame at the front of bytes, or why there is none; and the bytes after what was
+-- what follows the length of the frame at the beginning of bytes, or why there is none; and the bytes after what was
 -- looked at: the frame, or its length alone where that is too great
 unfoldable pub frame_at : List ℕ → Result (List ℕ) GossipFault × List ℕ
 frame_at bytes = content_from (number_at w32 bytes)
@@ -30,9 +30,9 @@ IsFrame bytes = frame_at bytes ≡ (Ok (drop 4 bytes), [])
 
 -- ---- what was read
 
--- bytes were taken from the front of what a reader had, where that is known, and stand after those that were there
+-- bytes were taken from the beginning of what a reader had, where that is known, and stand after those that were there
 abbrev pub Grows : Option (List ℕ) → Option (List ℕ) → List ℕ → List ℕ → Type 0
-Grows had left before bytes = (front : List ℕ) × (bytes ≡ before ++ front) × Consumes had left front
+Grows had left before bytes = (prefix : List ℕ) × (bytes ≡ before ++ prefix) × Consumes had left prefix
 
 -- why fewer bytes were read than asked for: the reader failed or its input ended; or memory ran out
 abbrev pub ReadsFewer : GossipFault → ℕ → ℕ → Type 0

@@ -194,9 +194,9 @@ impl Giver {
     /// Refused, in this order, as `Failed` after a fault; as `FrameTooLong` above 300,000 bytes; as
     /// `BadFrame` where it is of no kind; as `UnexpectedFrame` where that kind is not due; as
     /// `TooManyFrames`; and by its body, as `SchemaDiffers` for a Hello of another schema and as
-    /// `BadFrame` for any other. `Memory` hides none of these but a fault of a Summary frame's body.
-    /// After a refusal the session has failed, after `Memory` too. The cost is linear in the frame,
-    /// and at the last one that of `Source::difference`.
+    /// `BadFrame` for any other. `Memory` hides none of these but a fault of a Summary frame's
+    /// body. After a refusal the session has failed, after `Memory` too. The cost is linear in the
+    /// frame, and at the last one that of `Source::difference`.
     #[tactic(auto, unfolding(crate::specs::Giver::giver_takes, crate::specs::Giver::frame_due))]
     pub fn take<S: Source>(
         &mut self,

@@ -68,7 +68,7 @@ fn send_pages<S: Source, W: Write>(
 /// Refused as `ReadFailed`; as `Ended` where the input ends before the end of the names; by a frame
 /// as [`Giver::take`] refuses it, and as `FrameTooLong` on its length alone, before more is read;
 /// as `TooManyFrames` where a frame would be one above 16,777,216, either way; as `WriteFailed`;
-/// and as `Memory`. Nothing is written before the end of the names is taken, and a front of the
+/// and as `Memory`. Nothing is written before the end of the names is taken, and a prefix of the
 /// answer wherever the call ends.
 ///
 /// The cost is that of `Source::difference`, and linear in the bytes.

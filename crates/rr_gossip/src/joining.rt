@@ -16,7 +16,7 @@ use std::alloc::{AllocError, Global};
 fn join_all<T: Target>(cells: &[Cell], target: &mut T) -> Result<(), AllocError>
     requires { All (λ c. IsCellOf (T.layout target.old) (owned_cell c)) cells.now }
     ensures joined { OnOk result (T.has_joined target.old target.new (map owned_cell cells.now)) }
-    ensures front { OnErr result ((n : ℕ)
+    ensures prefix { OnErr result ((n : ℕ)
         × T.has_joined target.old target.new (take n (map owned_cell cells.now))) }
 {
     for cell in cells {

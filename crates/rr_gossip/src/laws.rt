@@ -1,6 +1,6 @@
 //! The laws of the bytes of frames, with no work to do: the functions have empty bodies.
 ghost use Rattle.rr_gossip.specs.Laws.{FramesAreTheirText, SummariesAreTheirText};
-ghost use Rattle.rr_gossip.specs.Session.{GivesAnswer, GivesHearTheNames, PullsBringTheDifference, PullsBringTheJoin, PullsTakeTheReply, PullsUnite, StoppedPullsTakeAFront};
+ghost use Rattle.rr_gossip.specs.Session.{GivesAnswer, GivesHearTheNames, PullsBringTheDifference, PullsBringTheJoin, PullsTakeTheReply, PullsUnite, StoppedPullsTakeAPrefix};
 ghost use Rattle.rr_gossip.specs.Transcript.{GiversReply, GiversTake, PullersSend, PullersTake, SessionsBringTheJoin};
 
 /// A frame is read exactly where it is the text of a kind and a body, and not too long.
@@ -58,7 +58,7 @@ pub fn gives_answer()
 /// first of them, in order.
 pub fn pulls_take_the_reply()
     ensures whole { PullsTakeTheReply }
-    ensures stopped { StoppedPullsTakeAFront }
+    ensures stopped { StoppedPullsTakeAPrefix }
 {}
 
 /// Where a `give` heard what a `pull` sent, and that `pull` read its answer, it took exactly what

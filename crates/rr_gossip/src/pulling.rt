@@ -80,8 +80,8 @@ fn take_pages<T: Target, R: Read>(
 /// pages; by a frame as [`Puller::take`] refuses it, and as `FrameTooLong` on its length alone,
 /// before more is read; as `TooManyFrames` where a frame would be one above 16,777,216, either way;
 /// and as `Memory`. The pages before the refused frame are then joined, and where memory ran out
-/// perhaps some cells of its page, from the first on. A front of the frames is written wherever the
-/// call ends.
+/// perhaps some cells of its page, from the first on. A prefix of the frames is written wherever
+/// the call ends.
 ///
 /// The cost is that of `Target::names_after` and `Target::join_cell`, and linear in the bytes.
 pub fn pull<T: Target, R: Read, W: Write>(

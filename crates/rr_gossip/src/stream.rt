@@ -9,15 +9,12 @@ ghost use Rattle.rr_gossip.specs.Stream.{BreaksOff, Grows, IsFrame, ReadsFewer};
 use crate::fault::GossipFault;
 use crate::frame::MAX_FRAME_LEN;
 use rr_io::Counted;
-use rr_io::stream::read_some;
+use rr_io::stream::{PIECE, read_some};
 use rr_page::fields::u32_at;
 use std::io::Read;
 
 /// How many bytes the length of a frame has.
 const LENGTH_LEN: usize = 4;
-
-/// How many bytes a read asks for.
-const PIECE: usize = 4_096;
 
 /// Reads until there are `len` bytes. Memory is taken for those that have come, and not for those
 /// that are to come.

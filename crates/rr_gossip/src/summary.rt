@@ -42,7 +42,7 @@ pub fn summary_bytes(alloc: Global, names: &[Name]) -> Result<Vec<u8>, AllocErro
     Ok(bytes)
 }
 
-/// The name and the version at the front of the bytes, and what follows them.
+/// The name and the version at the beginning of the bytes, and what follows them.
 #[tactic(auto, unfolding(crate::specs::SummaryReading::entry_at))]
 fn entry_of<'a>(
     alloc: Global,

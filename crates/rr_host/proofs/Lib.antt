@@ -1,4 +1,3 @@
 pub mod ClockLemmas
 pub mod CallsLemmas
 pub mod VisitsLemmas
-pub mod PeersLemmas

@@ -1,5 +1,5 @@
 -- The moments that a clock gave.
-use Rattle.std.specs.Prelude.{◌≡◌, ℕ, zero, suc, ◌-◌, ◌^◌, ◌==◌, ℤ, pos, List, [], ◌∷◌, ◌++◌, Option, None, Some, if◌then◌else◌}
+use Rattle.std.specs.Prelude.{◌≡◌, ℤ, List, ◌++◌, Option, None, Some}
 
 -- a clock that had given `before` has given these moments since; where nothing is known of it, nothing is said
 abbrev pub HasGiven : Option (List ℤ) → Option (List ℤ) → List ℤ → Type 0
@@ -7,26 +7,3 @@ HasGiven None None moments = Unit {0}
 HasGiven None (Some since) moments = ⊥
 HasGiven (Some before) None moments = Unit {0}
 HasGiven (Some before) (Some since) moments = since ≡ before ++ moments
-
--- the moment at a place, or the last one past the end; 0 where there is none
-abbrev pub moment_at : List ℤ → ℕ → ℤ
-moment_at [] place = pos 0
-moment_at (moment ∷ []) place = moment
-moment_at (moment ∷ next ∷ later) zero = moment
-moment_at (moment ∷ next ∷ later) (suc place) = moment_at (next ∷ later) place
-
--- the first moments given by a clock that has these
-abbrev pub first_moments : List ℤ → ℕ → List ℤ
-first_moments moments zero = []
-first_moments moments (suc count) = first_moments moments count ++ moment_at moments count ∷ []
-
--- a clock over memory: the moments that it has, and how many times it was asked and renewed, each up to the greatest
--- number of 64 bits
-pub record MomentsState : Type 0 where
-  pub moments : List ℤ
-  pub asked : ℕ
-  pub renewals : ℕ
-
--- what such a clock gave, as long as the times it was asked are counted
-abbrev pub given_by : MomentsState → Option (List ℤ)
-given_by c = if c.asked == 2 ^ 64 - 1 then None else Some (first_moments c.moments c.asked)

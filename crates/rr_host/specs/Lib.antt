@@ -2,9 +2,6 @@ pub mod Streams
 pub mod Clock
 pub mod Calls
 pub mod Visits
-pub mod Log
-pub mod Prepared
-pub mod Peers
 pub mod Halt
 pub mod Pace
 pub mod Faults

@@ -1,16 +1,16 @@
--- The pace of something that is done at most once in a turn.
+-- The pace of something that is done at most once an interval.
 use Rattle.std.specs.Prelude.{ℕ, ◌+◌, ◌*◌, ◌-◌, ◌/◌, ◌^◌, ◌==◌, nat_le, min, Bool, true, Option, None, Some, if◌then◌else◌}
 use Rattle.std.specs.Time.{instant_nanos}
 use Rattle.std.specs.declared.time.Instant.{Instant}
 use Rattle.rr_host.specs.declared.pace.TheConstants.{MOST_PASSED}
 
--- the seconds of a turn, if it has turns, when it was done last, and for how many turns it is passed over
+-- the seconds of an interval, if there is one, when it was done last, and for how many intervals it is passed over
 pub record PaceState : Type 0 where
   pub every : Option ℕ
   pub last : Option Instant
   pub passed : ℕ
 
--- for how many turns it is passed over after one more failure: 1, 2, 4 and so on
+-- for how many intervals it is passed over after one more failure: 1, 2, 4 and so on
 abbrev pub passed_next : ℕ → ℕ
 passed_next passed = if passed == 0 then 1 else min (passed * 2) MOST_PASSED
 
@@ -18,7 +18,7 @@ passed_next passed = if passed == 0 then 1 else min (passed * 2) MOST_PASSED
 abbrev pub within_64_bits : ℕ → ℕ
 within_64_bits n = min n (2 ^ 64 - 1)
 
--- whether after so many seconds a turn is past, and those that are passed over
+-- whether after so many seconds an interval is past, and those that are passed over
 abbrev pub is_past : (elapsed every passed : ℕ) → Bool
 is_past elapsed every passed = nat_le (within_64_bits (every * within_64_bits (passed + 1))) elapsed
 
@@ -26,7 +26,7 @@ is_past elapsed every passed = nat_le (within_64_bits (every * within_64_bits (p
 abbrev pub seconds_between : Instant → Instant → ℕ
 seconds_between last now = (instant_nanos now - instant_nanos last) / 1_000_000_000
 
--- by the seconds of a turn, by when it was done last, and by now: due where one of them is missing
+-- by the seconds of an interval, by when it was done last, and by now: due where one of them is missing
 abbrev pub is_due_by : Option ℕ → Option Instant → Option Instant → ℕ → Bool
 is_due_by (Some every) (Some last) (Some now) passed = is_past (seconds_between last now) every passed
 is_due_by None last now passed = true

@@ -6,24 +6,23 @@ ghost use Rattle.rr_host.specs.Pace.{is_due, is_past, passed_next};
 use std::marker::Model;
 use std::time::Instant;
 
-/// For how many turns something that failed is passed over at most.
+/// For how many intervals something that failed is passed over at most.
 const MOST_PASSED: u64 = 64;
 
 const _: () = prove!(MOST_PASSED == 64);
 
-/// The pace of something that is done at most once in a turn of so many seconds, by a clock that
-/// never goes back.
+/// The pace of something that is done at most once an interval, by a clock that never goes back.
 ///
-/// Where it failed it is passed over for one turn, and then, as long as it fails again, for 2, 4
-/// and so on, at most 64. Each call takes a reading of the clock; where that is missing, as the
-/// clock can't be read, the thing is due, and so it is after a time of which it is missing.
+/// After a failure it is passed over for one interval; while it keeps failing, for 2, 4 and so on
+/// up to 64. Each call takes what the clock says. Where that is missing, since the clock couldn't
+/// be read, the thing is due; so it is where it is missing of the last time.
 #[derive(Drop)]
 pub struct Pace {
-    /// The seconds of a turn; where this is missing, the thing is due at any time.
+    /// The seconds of an interval; without one the thing is due at any time.
     every: Option<u64>,
     /// When it was done last.
     last: Option<Instant>,
-    /// For how many turns it is passed over, since it failed then.
+    /// For how many intervals it is passed over, since it failed then.
     passed: u64,
 }
 
@@ -35,7 +34,7 @@ impl Model for Pace {
     ghost view = { λ p. record { every = p.every; last = p.last; passed = p.passed } };
 }
 
-/// Whether a turn of `every` seconds is past, and the turns that are passed over.
+/// Whether an interval of `every` seconds is past, and those that are passed over.
 fn is_past(elapsed: u64, every: u64, passed: u64) -> bool
     ensures { result ≡ is_past elapsed every passed }
 {
@@ -43,8 +42,8 @@ fn is_past(elapsed: u64, every: u64, passed: u64) -> bool
 }
 
 impl Pace {
-    /// The pace of what is due once in so many seconds, or at any time if that is missing. It has
-    /// not been done yet.
+    /// The pace of what is due once an interval of so many seconds, or without one at any time. It
+    /// has not been done yet.
     pub fn new(every: Option<u64>) -> Pace
         ensures { result ≡ record { every = every; last = None; passed = 0 } }
     {

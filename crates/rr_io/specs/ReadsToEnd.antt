@@ -5,7 +5,7 @@ use Rattle.rr_io.specs.declared.counted.Counted.{Counted}
 use Rattle.rr_io.specs.declared.stream.ReadFault.{ReadFault}
 use Rattle.rr_io.specs.declared.stream.ReadFault.TheVariants.{ReadFailed, TooManyReads, Memory}
 use Rattle.rr_io.specs.Counted.{inner_of, ends_of}
-use Rattle.rr_io.specs.Stream.{AddsFront, HasFailed, HasFewReads, HasReads, KeepsFailures, TakesMore}
+use Rattle.rr_io.specs.Stream.{AddsPrefix, HasFailed, HasFewReads, HasReads, KeepsFailures, TakesMore}
 
 -- all that was left of an input was appended to the bytes already there, in at most `reads` reads
 pub record ReadsToEnd {R : Type 0} (remaining : R → Option (List ℕ)) (reads : ℕ) (old new : Counted R)
@@ -14,7 +14,7 @@ pub record ReadsToEnd {R : Type 0} (remaining : R → Option (List ℕ)) (reads 
   pub consumed : OnOk result (IfSome (remaining (inner_of old))
       (Consumes (remaining (inner_of old)) (remaining (inner_of new))))
   -- however the call ends
-  pub front : AddsFront (remaining (inner_of old)) before after
+  pub prefix : AddsPrefix (remaining (inner_of old)) before after
   pub failures_never_fall : KeepsFailures old new
   pub limit : HasFewReads reads old new
   -- when it is refused

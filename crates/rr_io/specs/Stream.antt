@@ -5,27 +5,27 @@ use Rattle.std.specs.Io.KnownBytes.{Appends, Consumes, IsAtEnd, Keeps, ReadConsu
 use Rattle.rr_io.specs.declared.counted.Counted.{Counted}
 use Rattle.rr_io.specs.Counted.{inner_of, failures_of, is_flushed, reads_of, HasRisen, HasRisenBy}
 
--- where the bytes of a writer are known, a front of the text was written after them, and nothing else
+-- where the bytes of a writer are known, a prefix of the text was written after them, and nothing else
 abbrev pub AppendsPrefix : Option (List ℕ) → Option (List ℕ) → List ℕ → Type 0
-AppendsPrefix old new text = (front : List ℕ) × (rest : List ℕ) × (text ≡ front ++ rest) × Appends old new front
+AppendsPrefix old new text = (prefix : List ℕ) × (rest : List ℕ) × (text ≡ prefix ++ rest) × Appends old new prefix
 
--- where the bytes of a reader are known, some were taken from their front, or none
+-- where the bytes of a reader are known, some were taken from their prefix, or none
 abbrev pub ConsumesSome : Option (List ℕ) → Option (List ℕ) → Type 0
 ConsumesSome old new = (bytes : List ℕ) × Consumes old new bytes
 
--- where the bytes of a reader are known, at most so many were taken from their front
+-- where the bytes of a reader are known, at most so many were taken from their prefix
 abbrev pub TakesAtMost : ℕ → Option (List ℕ) → Option (List ℕ) → Type 0
 TakesAtMost n old new = (bytes : List ℕ) × (length bytes ≤ n) × Consumes old new bytes
 
--- a front of what a reader had, where that is known, was added after the bytes that were there
-abbrev pub AddsFront : Option (List ℕ) → List ℕ → List ℕ → Type 0
-AddsFront known old new = (front : List ℕ) × (new ≡ old ++ front)
-    × IfSome known (λ all. (rest : List ℕ) × (all ≡ front ++ rest))
+-- a prefix of what a reader had, where that is known, was added after the bytes that were there
+abbrev pub AddsPrefix : Option (List ℕ) → List ℕ → List ℕ → Type 0
+AddsPrefix known old new = (prefix : List ℕ) × (new ≡ old ++ prefix)
+    × IfSome known (λ all. (rest : List ℕ) × (all ≡ prefix ++ rest))
 
--- a front of what a reader had was added after the bytes that were there, and more than that was taken from it
+-- a prefix of what a reader had was added after the bytes that were there, and more than that was taken from it
 abbrev pub TakesMore : Option (List ℕ) → Option (List ℕ) → List ℕ → List ℕ → Type 0
-TakesMore known left old new = (front : List ℕ) × (more : List ℕ) × (new ≡ old ++ front) × (0 < length more)
-    × Consumes known left (front ++ more)
+TakesMore known left old new = (prefix : List ℕ) × (more : List ℕ) × (new ≡ old ++ prefix) × (0 < length more)
+    × Consumes known left (prefix ++ more)
 
 -- one read told the end: it gave no byte, though there was room
 abbrev pub tells_end : {E : Type 0} → Result (Option ℕ) E → ℕ → Bool
@@ -33,7 +33,7 @@ tells_end (Ok (Some given)) room = (given == 0) && not (room == 0)
 tells_end (Ok None) room = false
 tells_end (Err fault) room = false
 
--- one read gave the bytes at the front of the buffer, none only at the end or with no room; or a signal interrupted
+-- one read gave the bytes at the beginning of the buffer, none only at the end or with no room; or a signal interrupted
 -- it, or it failed, and it took nothing
 abbrev pub ReadsOnce : {E : Type 0} → Option (List ℕ) → Option (List ℕ) → Result (Option ℕ) E → List ℕ → Type 0
 ReadsOnce old new (Ok (Some given)) buf =
@@ -41,12 +41,12 @@ ReadsOnce old new (Ok (Some given)) buf =
 ReadsOnce old new (Ok None) buf = Keeps old new
 ReadsOnce old new (Err fault) buf = Keeps old new
 
--- one read gave as many bytes as it says, at the front of the buffer
+-- one read gave as many bytes as it says, at the beginning of the buffer
 pub record ReadsInto {E : Type 0} (old new : Option (List ℕ)) (result : Result ℕ E) (buf : List ℕ) : Type 0 where
   pub bound : ReadsAtMost result buf
   pub bytes : ReadConsumes old new result buf
 
--- one write took as many bytes as it says, from the front of the piece
+-- one write took as many bytes as it says, from the beginning of the piece
 pub record WritesFrom {E : Type 0} (old new : Option (List ℕ)) (result : Result ℕ E) (piece : List ℕ) : Type 0 where
   pub bound : WritesAtMost result piece
   pub bytes : WriteAppends old new result piece
@@ -57,9 +57,9 @@ pub record WritesFrom {E : Type 0} (old new : Option (List ℕ)) (result : Resul
 abbrev pub WritesWhole : {W : Type 0} → (W → Option (List ℕ)) → Counted W → Counted W → List ℕ → Type 0
 WritesWhole contents old new text = Appends (contents (inner_of old)) (contents (inner_of new)) text
 
--- a front of a text was, and nothing else
-abbrev pub WritesFront : {W : Type 0} → (W → Option (List ℕ)) → Counted W → Counted W → List ℕ → Type 0
-WritesFront contents old new text = AppendsPrefix (contents (inner_of old)) (contents (inner_of new)) text
+-- a prefix of a text was, and nothing else
+abbrev pub WritesPrefix : {W : Type 0} → (W → Option (List ℕ)) → Counted W → Counted W → List ℕ → Type 0
+WritesPrefix contents old new text = AppendsPrefix (contents (inner_of old)) (contents (inner_of new)) text
 
 -- some bytes were taken, or none
 abbrev pub ReadsSome : {R : Type 0} → (R → Option (List ℕ)) → Counted R → Counted R → Type 0
@@ -99,16 +99,16 @@ pub record CountsFailures {S X E : Type 0} (old new : Counted S) (result : Resul
 -- at most `n` bytes were taken, and a call failed if this one is refused
 pub record ReadsOn {R X E : Type 0} (n : ℕ) (remaining : R → Option (List ℕ)) (old new : Counted R)
     (result : Result X E) : Type 0 where
-  pub front : ReadsSome remaining old new
+  pub prefix : ReadsSome remaining old new
   pub most : ReadsUpTo n remaining old new
   pub failures_never_fall : KeepsFailures old new
   pub failed : OnErr result (HasFailed old new)
 
--- the whole text was written; or a front of it was, and a call of the writer failed
+-- the whole text was written; or a prefix of it was, and a call of the writer failed
 pub record Writes {W E : Type 0} (contents : W → Option (List ℕ)) (old new : Counted W) (text : List ℕ)
     (result : Result (Unit {0}) E) : Type 0 where
   pub whole : OnOk result (WritesWhole contents old new text)
-  pub front : WritesFront contents old new text
+  pub prefix : WritesPrefix contents old new text
   pub failures_never_fall : KeepsFailures old new
   pub failed : OnErr result (HasFailed old new)
 

@@ -25,8 +25,8 @@ use thiserror::Error;
 /// How many times in a row a call is made that signals interrupt.
 pub const MAX_INTERRUPTS: u32 = 16;
 
-/// How many bytes a read of a whole input asks for.
-const PIECE: usize = 4_096;
+/// How many bytes one read asks for where an input is read to a length or to its end.
+pub const PIECE: usize = 4_096;
 
 /// A reader failed.
 #[derive(Clone, Copy, Debug, PartialEq, Eq, Error)]
@@ -38,9 +38,9 @@ pub struct ReadFailed;
 #[error("the output could not be written")]
 pub struct WriteFailed;
 
-/// Makes one read into the front of `buf`, and answers how many bytes it gave: none only at the end
-/// of the input, or where `buf` is empty. `None` is a read that a signal interrupted, and that is
-/// to be made again. Such a read, and one that failed, took no byte of the input.
+/// Makes one read into the beginning of `buf`, and answers how many bytes it gave: none only at the
+/// end of the input, or where `buf` is empty. `None` is a read that a signal interrupted, and that
+/// is to be made again. Such a read, and one that failed, took no byte of the input.
 pub fn read_once<R: Read>(
     input: &mut Counted<R>,
     buf: &mut [u8],
@@ -64,7 +64,7 @@ pub fn read_once<R: Read>(
     }
 }
 
-/// Reads some bytes into the front of `buf`, and answers how many: none only at the end of the
+/// Reads some bytes into the beginning of `buf`, and answers how many: none only at the end of the
 /// input, or where `buf` is empty. A read that failed took no byte of the input.
 pub fn read_some<R: Read>(input: &mut Counted<R>, buf: &mut [u8]) -> Result<usize, ReadFailed>
     ensures read { ReadsInto (R.remaining (inner_of input.old))
@@ -79,8 +79,9 @@ pub fn read_some<R: Read>(input: &mut Counted<R>, buf: &mut [u8]) -> Result<usiz
     Err(ReadFailed)
 }
 
-/// Reads until `buf` is full or the input ends, and answers how many bytes it put into the front of
-/// `buf`. After a failure some bytes may have been taken from the input, and no more than it holds.
+/// Reads until `buf` is full or the input ends, and answers how many bytes it put into the
+/// beginning of `buf`. After a failure some bytes may have been taken from the input, and no more
+/// than it holds.
 pub fn fill<R: Read>(input: &mut Counted<R>, buf: &mut [u8]) -> Result<usize, ReadFailed>
     ensures bound { IfOk result (λ filled. filled ≤ length buf.new) }
     ensures bytes { IfOk result (λ filled. Consumes (R.remaining (inner_of input.old))
@@ -173,7 +174,7 @@ pub fn read_to_end<R: Read>(input: &mut Counted<R>, bytes: &mut Vec<u8>) -> Resu
 ///
 /// Each call of the reader is a read: one that a signal interrupted, and the one that gives no
 /// byte, which is the end. `TooManyReads` is answered after `reads` calls that did not reach the
-/// end, and no further call is made. After a refusal a front of the input was added.
+/// end, and no further call is made. After a refusal a prefix of the input was added.
 pub fn read_to_end_within<R: Read>(
     input: &mut Counted<R>,
     bytes: &mut Vec<u8>,
@@ -195,7 +196,7 @@ pub fn read_to_end_within<R: Read>(
     Err(ReadFault::TooManyReads)
 }
 
-/// Writes some bytes from the front of a piece that has some, and answers how many.
+/// Writes some bytes from the beginning of a piece that has some, and answers how many.
 fn write_some<W: Write>(output: &mut Counted<W>, piece: &[u8]) -> Result<usize, WriteFailed>
     requires { 0 < length piece.now }
     ensures some_taken { IfOk result (λ taken. 0 < taken) }
@@ -217,7 +218,7 @@ fn write_some<W: Write>(output: &mut Counted<W>, piece: &[u8]) -> Result<usize, 
     Err(WriteFailed)
 }
 
-/// Writes the text whole. Where that fails, a front of it was written.
+/// Writes the text whole. Where that fails, a prefix of it was written.
 pub fn write_all<W: Write>(output: &mut Counted<W>, text: &[u8]) -> Result<(), WriteFailed>
     ensures { Writes W.contents output.old output.new text.now result }
 {

@@ -80,13 +80,13 @@ unescape-escape class (b ∷ name) =
           | inr plain ↦ rw (plain, plain) (and_false (eqb b 92))
         ]
 
-takes_none_front : (class : Class) (b : ℕ) (rest : List ℕ) (k : ℕ) → TakesNone class b rest
+takes_none_prefix : (class : Class) (b : ℕ) (rest : List ℕ) (k : ℕ) → TakesNone class b rest
     → TakesNone class b (take k rest)
-takes_none_front class b rest zero h = tt
-takes_none_front class b [] (suc k) h = tt
-takes_none_front class b (c ∷ cs) (suc k) h = h
+takes_none_prefix class b rest zero h = tt
+takes_none_prefix class b [] (suc k) h = tt
+takes_none_prefix class b (c ∷ cs) (suc k) h = h
 
--- the units at the front are those that write what they stand for
+-- the units at the beginning are those that write what they stand for
 pub escape-unescape : (class : Class) (text : List ℕ)
     → escape class (unescape class (take (name_len class text) text)) ≡ take (name_len class text) text
 escape-unescape class [] = refl
@@ -104,16 +104,16 @@ escape-unescape class (b ∷ c ∷ cs) =
           let read : unescape class (b ∷ c ∷ x) ≡ c ∷ unescape class x = rw pair refl in
           let written : escape class (c ∷ unescape class x) ≡ 92 ∷ c ∷ escape class (unescape class x) =
           rw parts.1 refl in
-          let front : 92 ∷ c ∷ escape class (unescape class x) ≡ b ∷ c ∷ x =
+          let prefix : 92 ∷ c ∷ escape class (unescape class x) ≡ b ∷ c ∷ x =
           ap (λ (y : ℕ). y ∷ c ∷ escape class (unescape class x)) (sym (eqb-true b 92 parts.0))
           ∙ ap (λ (l : List ℕ). b ∷ c ∷ l) (escape-unescape class cs) in
-          rw (pair, n) (ap (escape class) read ∙ written ∙ front)
+          rw (pair, n) (ap (escape class) read ∙ written ∙ prefix)
       | inr apart ↦ elim (cases_Bool (is_special class b)) [
         | inl special ↦ rw (apart, special) refl
         | inr plain ↦
             let x = take (name_len class (c ∷ cs)) (c ∷ cs) in
             let read : unescape class (b ∷ x) ≡ b ∷ unescape class x =
-            unescape-plain class b x (takes_none_front class b (c ∷ cs) (name_len class (c ∷ cs)) apart) in
+            unescape-plain class b x (takes_none_prefix class b (c ∷ cs) (name_len class (c ∷ cs)) apart) in
             let written : escape class (b ∷ unescape class x) ≡ b ∷ x =
             rw plain (ap (λ (l : List ℕ). b ∷ l) (escape-unescape class (c ∷ cs))) in
             rw (apart, plain, add-one) (ap (escape class) read ∙ written)

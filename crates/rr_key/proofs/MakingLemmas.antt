@@ -110,11 +110,11 @@ IsSeries-making_fault names e =
     let empty_parts = or_false (is_empty names.measurement || any_tag is_empty names.tags) (is_empty names.field)
     filled.0 in
     let bad_parts = or_false (is_bad names.measurement || any_tag is_bad names.tags) (is_bad names.field) good.0 in
-    let empty_front = or_false (is_empty names.measurement) (any_tag is_empty names.tags) empty_parts.0 in
-    let bad_front = or_false (is_bad names.measurement) (any_tag is_bad names.tags) bad_parts.0 in
+    let empty_prefix = or_false (is_empty names.measurement) (any_tag is_empty names.tags) empty_parts.0 in
+    let bad_prefix = or_false (is_bad names.measurement) (any_tag is_bad names.tags) bad_parts.0 in
     record {
-      measurement = name_if names.measurement empty_front.0 bad_front.0;
-      tags = tags_of_map names.tags (tags_if names.tags empty_front.1 bad_front.1);
+      measurement = name_if names.measurement empty_prefix.0 bad_prefix.0;
+      tags = tags_of_map names.tags (tags_if names.tags empty_prefix.1 bad_prefix.1);
       field = name_if names.field empty_parts.1 bad_parts.1;
       few = omega (arith, length_of_map names.tags, ltb-false 32 (length names.tags) few.0);
       short = ltb-false 1024 (length (key_text (series_of names))) short.0;

@@ -109,14 +109,14 @@ pub name_at-found : (class : Class) (text raw rest : List ℕ) → name_at class
 name_at-found class text raw rest e =
     let n = name_len class text in
     let parts = some_if (is_name (take n text)) (take n text, drop n text) (raw, rest) e in
-    let front : take n text ≡ raw = ap (λ (p : List ℕ × List ℕ). p.0) parts.1 in
+    let prefix : take n text ≡ raw = ap (λ (p : List ℕ × List ℕ). p.0) parts.1 in
     let back : drop n text ≡ rest = ap (λ (p : List ℕ × List ℕ). p.1) parts.1 in
-    let written : raw ≡ escape class (unescape class raw) = sym front ∙ sym (escape-unescape class text)
-    ∙ ap (λ (l : List ℕ). escape class (unescape class l)) front in
+    let written : raw ≡ escape class (unescape class raw) = sym prefix ∙ sym (escape-unescape class text)
+    ∙ ap (λ (l : List ℕ). escape class (unescape class l)) prefix in
     record {
-      name = sym (is_name-escape class (unescape class raw)) ∙ ap is_name (sym written ∙ sym front) ∙ parts.0;
+      name = sym (is_name-escape class (unescape class raw)) ∙ ap is_name (sym written ∙ sym prefix) ∙ parts.0;
       raw_is = written;
-      whole = sym (take-append-drop n text) ∙ ap (λ (l : List ℕ). l ++ drop n text) (front ∙ written)
+      whole = sym (take-append-drop n text) ∙ ap (λ (l : List ℕ). l ++ drop n text) (prefix ∙ written)
           ∙ ap (λ (l : List ℕ). escape class (unescape class raw) ++ l) back;
     }
 

@@ -12,13 +12,13 @@ use Rattle.rr_text.specs.Options.{◌>>=◌}
 use Rattle.rr_key.specs.Series.{is_tag, tail_text}
 use Rattle.rr_key.specs.Unit.{escape, unescape, name_len}
 
--- the written name at the front and the bytes after it, if it may be one of a key
+-- the written name at the beginning and the bytes after it, if it may be one of a key
 abbrev pub name_at : Class → List ℕ → Option (List ℕ × List ℕ)
 name_at class text =
     let len = name_len class text in
     if is_name (take len text) then Some (take len text, drop len text) else None
 
--- the written key of the tag at the front, and the bytes after the tag
+-- the written key of the tag at the beginning, and the bytes after the tag
 abbrev pub tag_at : List ℕ → Option (List ℕ × List ℕ)
 tag_at text = do
   key ← name_at Other text

@@ -19,7 +19,7 @@ unescape class (byte ∷ next ∷ rest) =
     if byte == BACKSLASH && is_special class next then next ∷ unescape class rest else byte ∷ unescape class
     (next ∷ rest)
 
--- how many bytes the units at the front take, up to the first special byte that no backslash took
+-- how many bytes the units at the beginning take, up to the first special byte that no backslash took
 abbrev pub name_len : Class → List ℕ → ℕ
 name_len class [] = 0
 name_len class (byte ∷ []) = if is_special class byte then 0 else 1

@@ -8,8 +8,8 @@ ghost use Rattle.std.specs.Cmp.Lexicographic.{slice_cmp, pointwise};
 ghost use Rattle.std.specs.Ordering.{nat_cmp, as_partial_cmp};
 
 use crate::fault::KeyFault;
+use crate::key_text::is_key_text;
 use crate::making::make_text;
-use crate::reading::is_key_text;
 use std::alloc::{AllocError, Global};
 use std::cmp::Ordering;
 use std::marker::Model;

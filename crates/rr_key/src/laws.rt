@@ -13,7 +13,7 @@ ghost use Rattle.rr_key.specs.Unit.{escape, unescape, name_len};
 use crate::class::Class;
 
 /// A name and the units that write it: the name is read back, its units end where it ends, and the
-/// units at the front of any text are those that write what they are read as.
+/// units at the beginning of any text are those that write what they are read as.
 pub fn a_name_is_written_in_one_way(class: Class)
     ensures back { (name : List ℕ) → unescape class (escape class name) ≡ name }
     ensures ends { (name rest : List ℕ) → MayFollow class name rest

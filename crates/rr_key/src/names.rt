@@ -11,8 +11,8 @@ use crate::class::{Class, is_special};
 use memchr::{memchr2, memchr3};
 use rr_text::bytes::{BACKSLASH, COMMA, EQUALS, LINE_FEED, SPACE};
 
-/// How many bytes the written name at the front of the text takes: up to the first special byte of
-/// the class that no backslash took, or to the end.
+/// How many bytes the written name at the beginning of the text takes: up to the first special byte
+/// of the class that no backslash took, or to the end.
 ///
 /// A backslash before a special byte takes it; any other backslash is a byte of the name. The rule
 /// is that of the "InfluxDB line protocol reference". The cost is one pass over the name, and no
@@ -86,7 +86,7 @@ fn is_name(name: &[u8]) -> bool
     !name.is_empty() && !is_bad(name)
 }
 
-/// The written name at the front and the bytes after it, if it may be one of a key.
+/// The written name at the beginning and the bytes after it, if it may be one of a key.
 pub(crate) fn split_name(class: Class, text: &[u8]) -> Option<(&[u8], &[u8])>
     ensures { option_map (λ parts. (parts.0.now, parts.1.now)) result ≡ name_at class text.now }
 {

@@ -87,7 +87,7 @@ no_backslash key at within none some back =
     before_last_at BACKSLASH (take at key) (omega (arith, len)) ∙ rw (eq-eqb _ BACKSLASH last) refl in
     absurd cc
 
--- so what precedes it is the front, and what follows it the field
+-- so what precedes it is the prefix, and what follows it the field
 pub cut_at_space : (key field : List ℕ) (at : ℕ) → IsLastByte (is_byte SPACE) key (Some at)
     → before_last BACKSLASH (take at key) ≡ None
     → drop at key ≡ SPACE ∷ field → IsCut key (take at key) field

@@ -52,8 +52,8 @@ bare_is text value rest h = cut_is (value_len text) text value rest
 value_from : (text : List ℕ) (value : ℤ × List ℕ) → IsValue text value.0 value.1
     → (begins QUOTE text ≡ false) × ((number : ℤ) × (value_of (take (value_len text) text) ≡ Ok number)
     × Behind text number value)
-value_from text (number, rest) (front, is_bare, is) =
-    let cut = first_is (cut_after (value_len text) text) (front, rest) (bare_is text front rest is_bare) in
+value_from text (number, rest) (prefix, is_bare, is) =
+    let cut = first_is (cut_after (value_len text) text) (prefix, rest) (bare_is text prefix rest is_bare) in
     (is_bare.bare, (number, ap value_of cut.0 ∙ is, ap (λ (r : List ℕ). (the_number number, r)) cut.1))
   where
     the_number : ℤ → ℤ

@@ -21,10 +21,10 @@ use Rattle.rr_line.proofs.TagLemmas.{comma_is, no_comma}
 -- the fields that are read after others, and what follows them
 abbrev pub HasFields : List Field → List ℕ → List Field × List ℕ → Type 0
 HasFields before text fields =
-    (front : List Field) × (last : Field) × (last_text : List ℕ) × LeadTo before text front last_text
+    (prefix : List Field) × (last : Field) × (last_text : List ℕ) × LeadTo before text prefix last_text
     × IsField last_text last fields.1
-    × MayComeAfter (before ++ front) last × (begins COMMA fields.1 ≡ false)
-    × (fields.0 ≡ before ++ (front ++ last ∷ []))
+    × MayComeAfter (before ++ prefix) last × (begins COMMA fields.1 ≡ false)
+    × (fields.0 ≡ before ++ (prefix ++ last ∷ []))
 
 -- good fields, and then one that is not
 abbrev pub HasBadField : List Field → List ℕ → LineFault → Type 0
@@ -94,16 +94,16 @@ fields_to before text fields few ((field, rest), is, (other, inl (ended, all))) 
 fields_to before text fields few (
   (field, rest),
   is,
-  (other, inr (next, whole, (front, last, last_text, leading, ends, new, ended, all))),
+  (other, inr (next, whole, (prefix, last, last_text, leading, ends, new, ended, all))),
 ) = (
-  field ∷ front,
+  field ∷ prefix,
   last,
   last_text,
   (next, subst (λ (r : List ℕ). IsField text field r) whole is, record { few = few; other = other }, leading),
   ends,
-  subst (λ (fs : List Field). MayComeAfter fs last) (append_assoc before (field ∷ []) front) new,
+  subst (λ (fs : List Field). MayComeAfter fs last) (append_assoc before (field ∷ []) prefix) new,
   ended,
-  all ∙ append_assoc before (field ∷ []) (front ++ last ∷ []),
+  all ∙ append_assoc before (field ∷ []) (prefix ++ last ∷ []),
 )
 
 fields_from : (before : List Field) (text : List ℕ) (fields : List Field × List ℕ) → HasFields before text fields
@@ -114,7 +114,7 @@ fields_from before text (fields, rest) ([], last, last_text, leading, ends, new,
       subst (λ (t : List ℕ). IsField t last rest) (sym leading) ends,
       (may.other, inl (ended, rw all refl)),
     )
-fields_from before text (fields, rest) (field ∷ front, last, last_text, leading, ends, new, ended, all) = (
+fields_from before text (fields, rest) (field ∷ prefix, last, last_text, leading, ends, new, ended, all) = (
   (field, COMMA ∷ leading.0),
   leading.1,
   (
@@ -123,14 +123,14 @@ fields_from before text (fields, rest) (field ∷ front, last, last_text, leadin
       leading.0,
       refl,
       (
-        front,
+        prefix,
         last,
         last_text,
         leading.3,
         ends,
-        subst (λ (fs : List Field). MayComeAfter fs last) (sym (append_assoc before (field ∷ []) front)) new,
+        subst (λ (fs : List Field). MayComeAfter fs last) (sym (append_assoc before (field ∷ []) prefix)) new,
         ended,
-        all ∙ sym (append_assoc before (field ∷ []) (front ++ last ∷ [])),
+        all ∙ sym (append_assoc before (field ∷ []) (prefix ++ last ∷ [])),
       ),
     ),
   ),
@@ -218,7 +218,7 @@ full_good : (before : List Field) (text : List ℕ) (fields : List Field × List
 full_good before text fields full ([], last, last_text, leading, ends, new, ended, all) =
     let few = (subst (λ (fs : List Field). MayComeAfter fs last) (append-nil before) new).few in
     omega (arith, few, full)
-full_good before text fields full (field ∷ front, last, last_text, leading, ends, new, ended, all) =
+full_good before text fields full (field ∷ prefix, last, last_text, leading, ends, new, ended, all) =
     omega (arith, leading.2.few, full)
 
 full_to : (before : List Field) (text : List ℕ) (fault : LineFault) → length before ≡ MAX_FIELDS

@@ -162,9 +162,9 @@ good_names text measurement tags rest none h some =
     )
 
 -- how many bytes precede what follows the tags
-pub front_size : (text measurement : List ℕ) (tags : List Tag) (rest : List ℕ) → LeadsToTags text measurement tags rest
+pub prefix_size : (text measurement : List ℕ) (tags : List Tag) (rest : List ℕ) → LeadsToTags text measurement tags rest
     → length text ≡ length measurement + tags_len tags + length rest
-front_size text measurement tags rest h =
+prefix_size text measurement tags rest h =
     omega (
       arith,
       ap length h.name.whole,
@@ -217,20 +217,20 @@ one_more_good (field ∷ fields) last good fine = (good.0, one_more_good fields 
 pub fields_good : (text : List ℕ) (fields : List Field) (rest : List ℕ) → HasNoLineFeed text
     → AreFields text fields rest → FieldsGood fields
 fields_good text fields rest none h =
-    let front = lead_good [] text h.front h.last_text none h.leading in
-    subst FieldsGood (sym h.all) (one_more_good h.front h.last front.0
-    (field_good h.last_text h.last rest front.1 h.ends).0)
+    let prefix = lead_good [] text h.prefix h.last_text none h.leading in
+    subst FieldsGood (sym h.all) (one_more_good h.prefix h.last prefix.0
+    (field_good h.last_text h.last rest prefix.1 h.ends).0)
 
 -- whether a key is too long, by what precedes the fields
-pub long_by_size : (p : PointView) (front : ℕ) (fields : List Field) → HasGoodNames p.measurement p.tags
-    → front ≡ length p.measurement + tags_len p.tags → FieldsGood fields
+pub long_by_size : (p : PointView) (prefix : ℕ) (fields : List Field) → HasGoodNames p.measurement p.tags
+    → prefix ≡ length p.measurement + tags_len p.tags → FieldsGood fields
     → list_any (λ field. ltb MAX_KEY_TEXT (length (key_text p field.0))) fields
-    ≡ list_any (λ field. ltb MAX_KEY_TEXT (front + 1 + length field.0)) fields
-long_by_size p front [] names is good = refl
-long_by_size p front (field ∷ fields) names is good =
-    let len : length (key_text p field.0) ≡ front + 1 + length field.0 = key_size p field.0 names good.0
+    ≡ list_any (λ field. ltb MAX_KEY_TEXT (prefix + 1 + length field.0)) fields
+long_by_size p prefix [] names is good = refl
+long_by_size p prefix (field ∷ fields) names is good =
+    let len : length (key_text p field.0) ≡ prefix + 1 + length field.0 = key_size p field.0 names good.0
     ∙ omega (arith, is) in
-    ap₂ (λ (n : ℕ) (b : Bool). ltb MAX_KEY_TEXT n || b) len (long_by_size p front fields names is good.1)
+    ap₂ (λ (n : ℕ) (b : Bool). ltb MAX_KEY_TEXT n || b) len (long_by_size p prefix fields names is good.1)
 
 -- why a name of a good one is neither empty nor bad
 filled : (name : List ℕ) → is_name name ≡ true → is_empty name ≡ false
@@ -279,7 +279,7 @@ has_keys_of p (field ∷ fields) names good short =
     (list_any (λ field. ltb MAX_KEY_TEXT (length (key_text p field.0))) fields) short in
     (has_key_of p field.0 names good.0 parts.0, has_keys_of p fields names good.1 parts.1)
 
--- what follows the spaces at the front has no line feed either
+-- what follows the spaces at the beginning has no line feed either
 pub none_skipped : (text : List ℕ) → HasNoLineFeed text → HasNoLineFeed (skip_spaces text)
 none_skipped [] none = refl
 none_skipped (byte ∷ text) none =
@@ -301,11 +301,11 @@ pub names_of_parts : (text measurement : List ℕ) (tags : List Tag) (fields_tex
     → LeadsToFields text measurement tags fields_text → HasGoodNames measurement tags × HasNoLineFeed fields_text
 names_of_parts text measurement tags fields_text none h =
     let gap : 0 < length h.gap = omega (arith, h.some, ap length h.skipped, longer_skipped h.gap) in
-    let good = good_names text measurement tags h.gap none h.front gap in
+    let good = good_names text measurement tags h.gap none h.prefix gap in
     (good.0, subst HasNoLineFeed h.skipped (none_skipped h.gap good.1))
 
 pub has_keys : (precision : Precision) (text : List ℕ) (p : PointView) → HasNoLineFeed text → HasParts precision text p
     → has_long_key p ≡ false → HasKeys p
 has_keys precision text p none h short =
-    let names = names_of_parts text p.measurement p.tags h.fields_text none h.front in
+    let names = names_of_parts text p.measurement p.tags h.fields_text none h.prefix in
     has_keys_of p p.fields names.0 (fields_good h.fields_text p.fields h.ending names.1 h.are_fields) short

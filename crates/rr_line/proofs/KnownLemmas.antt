@@ -10,7 +10,7 @@ use Rattle.rr_key.specs.declared.class.Class.TheVariants.{Measurement, Other}
 use Rattle.rr_key.specs.Series.{IsKeyText}
 use Rattle.rr_key.specs.Unit.{escape, unescape}
 use Rattle.rr_key.proofs.EscapeLemmas.{unescape-escape}
-use Rattle.rr_point.specs.Front.{front_text}
+use Rattle.rr_point.specs.Prefix.{prefix_text}
 use Rattle.rr_point.specs.Key.{key_text}
 use Rattle.rr_point.specs.Point.{PointView}
 use Rattle.rr_line.specs.declared.precision.Precision.{Precision}
@@ -25,14 +25,14 @@ use Rattle.rr_line.proofs.AgreeLemmas.{Holds}
 use Rattle.rr_line.proofs.LineLemmas.{line_only}
 use Rattle.rr_line.proofs.ReadPointLemmas.{point_of}
 use Rattle.rr_line.proofs.TimeLemmas.{ending_agrees}
-use Rattle.rr_line.proofs.WrittenLemmas.{IsWritten, written, name_written, is_written, front_of, key_split, less_differs, front_kept, leads_to_field}
+use Rattle.rr_line.proofs.WrittenLemmas.{IsWritten, written, name_written, is_written, prefix_of, key_split, less_differs, prefix_kept, leads_to_field}
 
 -- a line whose fields end there says these samples
-pub says_samples : (precision : Precision) (line : List ℕ) (samples : List Sample) (front field rest : List ℕ)
-    (time : Option ℤ) → BeginsWith line samples front field rest
+pub says_samples : (precision : Precision) (line : List ℕ) (samples : List Sample) (prefix field rest : List ℕ)
+    (time : Option ℤ) → BeginsWith line samples prefix field rest
     → begins COMMA rest ≡ false → ending_at precision (skip_spaces rest) ≡ Ok time
     → SaysSamples precision line samples time
-says_samples precision line samples front field rest time h ended at =
+says_samples precision line samples prefix field rest time h ended at =
     let p = point_of h.p.measurement h.p.tags h.p.fields time in
     let agrees = ending_agrees precision rest in
     let is_ending : IsEnding precision rest time = subst (Holds (IsEnding precision rest) _) at agrees.holds in
@@ -42,9 +42,9 @@ says_samples precision line samples front field rest time h ended at =
         parts = record {
           fields_text = h.fields_text;
           ending = rest;
-          front = h.leads;
+          prefix = h.leads;
           are_fields = record {
-            front = h.before;
+            prefix = h.before;
             last = h.last;
             last_text = h.last_text;
             leading = h.leading;
@@ -61,13 +61,13 @@ says_samples precision line samples front field rest time h ended at =
       when = refl;
     }
 
--- the key text of a field, by the front that the key texts of a point have
-pub key_of_field : (p : PointView) (front field key : List ℕ) → front_text p.measurement p.tags ≡ front
-    → key ≡ front ++ SPACE ∷ escape Other field
+-- the key text of a field, by the prefix that the key texts of a point have
+pub key_of_field : (p : PointView) (prefix field key : List ℕ) → prefix_text p.measurement p.tags ≡ prefix
+    → key ≡ prefix ++ SPACE ∷ escape Other field
     → key_text p (escape Other field) ≡ key
-key_of_field p front field key same whole =
+key_of_field p prefix field key same whole =
     let name = unescape Other (escape Other field) in
-    let regrouped : key_text p (escape Other field) ≡ front_text p.measurement p.tags ++ SPACE ∷ escape Other name =
+    let regrouped : key_text p (escape Other field) ≡ prefix_text p.measurement p.tags ++ SPACE ∷ escape Other name =
     simp append_assoc in
     regrouped ∙ ap₂ (λ (t name : List ℕ). t ++ SPACE ∷ escape Other name) same (unescape-escape Other field) ∙ sym whole
 
@@ -79,12 +79,12 @@ above_one field value key lt = rw (less_differs (bytes_cmp field key) lt) refl
 -- a line that begins with a key text and an equals begins with a sample of the series
 pub begins_with_first : (line key : List ℕ) (value : ℤ) (rest : List ℕ) (k : IsWritten key)
     → HasFirst line key value rest
-    → BeginsWith line ((key, value) ∷ []) (front_of key k) (escape Other k.field) rest
+    → BeginsWith line ((key, value) ∷ []) (prefix_of key k) (escape Other k.field) rest
 begins_with_first line key value rest k h =
     let field = escape Other k.field in
     let p = point_of (escape Measurement k.measurement) (written k.tags) ((field, value) ∷ []) None in
     let kept : key_text p field ≡ key =
-    key_of_field p (front_of key k) k.field key (front_kept key k) (key_split key k) in
+    key_of_field p (prefix_of key k) k.field key (prefix_kept key k) (key_split key k) in
     let short : ltb MAX_KEY_TEXT (length (key_text p field)) ≡ false =
     le-ltb _ _ (omega (arith, ap length kept, k.short)) in
     record {
@@ -93,7 +93,7 @@ begins_with_first line key value rest k h =
       before = [];
       last = (field, value);
       last_text = field ++ EQUALS ∷ h.value_text;
-      leads = leads_to_field key (content line) h.value_text k h.said h.whole;
+      leads = leads_to_field key (content line) h.value_text k h.present h.whole;
       leading = refl;
       ends = record {
         value_text = h.value_text;
@@ -104,7 +104,7 @@ begins_with_first line key value rest k h =
       all = refl;
       short = rw short refl;
       are = ap (λ (t : List ℕ). (t, value) ∷ []) kept;
-      front_is = sym (front_kept key k);
+      prefix_is = sym (prefix_kept key k);
       field_is = refl;
       rising = above_one field value;
     }
@@ -116,5 +116,5 @@ pub says_first : (precision : Precision) (line key : List ℕ) (value : ℤ) (re
     → SaysSamples precision line ((key, value) ∷ []) time
 says_first precision line key value rest time is h ended at =
     let k = is_written key is in
-    says_samples precision line ((key, value) ∷ []) (front_of key k) (escape Other k.field) rest time
+    says_samples precision line ((key, value) ∷ []) (prefix_of key k) (escape Other k.field) rest time
     (begins_with_first line key value rest k h) ended at

@@ -22,7 +22,7 @@ use Rattle.rr_line.specs.Known.{SaysSamples, Sample}
 use Rattle.rr_line.specs.Value.{IsValue}
 use Rattle.rr_line.proofs.KnownLemmas.{key_of_field, begins_with_first, says_samples}
 use Rattle.rr_line.proofs.ReadPointLemmas.{point_of}
-use Rattle.rr_line.proofs.WrittenLemmas.{is_written, name_written, IsWritten, front_of, key_split, less, less_differs, has_key-more}
+use Rattle.rr_line.proofs.WrittenLemmas.{is_written, name_written, IsWritten, prefix_of, key_split, less, less_differs, has_key-more}
 
 -- one field more leads to what follows its comma
 lead_push : (before : List Field) (text : List ℕ) (fields : List Field) (last : Field) (last_text next : List ℕ)
@@ -45,18 +45,18 @@ pub record IsNext (field rest key : List ℕ) (k : IsWritten key) (value : ℤ) 
   pub is_value : IsValue value_text value left
   pub above : is_lt (bytes_cmp field (escape Other k.field)) ≡ true
 
-pub begins_with_next : (line : List ℕ) (samples : List Sample) (front field rest key : List ℕ) (k : IsWritten key)
+pub begins_with_next : (line : List ℕ) (samples : List Sample) (prefix field rest key : List ℕ) (k : IsWritten key)
     (value : ℤ) (left : List ℕ)
-    → BeginsWith line samples front field rest → front ≡ front_of key k → length samples < MAX_FIELDS
+    → BeginsWith line samples prefix field rest → prefix ≡ prefix_of key k → length samples < MAX_FIELDS
     → IsNext field rest key k value left
-    → BeginsWith line (samples ++ (key, value) ∷ []) (front_of key k) (escape Other k.field) left
-begins_with_next line samples front field rest key k value left h same few next =
+    → BeginsWith line (samples ++ (key, value) ∷ []) (prefix_of key k) (escape Other k.field) left
+begins_with_next line samples prefix field rest key k value left h same few next =
     let name = escape Other k.field in
     let text = name ++ EQUALS ∷ next.value_text in
     let p = point_of h.p.measurement h.p.tags (h.p.fields ++ (name, value) ∷ []) h.p.time in
-    let front_is : front_of key k ≡ front = sym same in
+    let prefix_is : prefix_of key k ≡ prefix = sym same in
     let kept : key_text p name ≡ key =
-    key_of_field p (front_of key k) k.field key (sym (front_is ∙ h.front_is)) (key_split key k) in
+    key_of_field p (prefix_of key k) k.field key (sym (prefix_is ∙ h.prefix_is)) (key_split key k) in
     let short : ltb MAX_KEY_TEXT (length (key_text p name)) ≡ false =
     le-ltb _ _ (omega (arith, ap length kept, k.short)) in
     let len = length-map {B = Sample} h.p.fields (λ (f : Field). (key_text h.p f.0, f.1)) in
@@ -81,7 +81,7 @@ begins_with_next line samples front field rest key k value left h same few next 
           ((name, value) ∷ []) ∙ rw (h.short, short) refl;
       are = map-append (λ (f : Field). (key_text p f.0, f.1)) h.p.fields ((name, value) ∷ [])
           ∙ ap₂ (λ (ss : List Sample) (t : List ℕ). ss ++ (t, value) ∷ []) h.are kept;
-      front_is = front_is ∙ h.front_is;
+      prefix_is = prefix_is ∙ h.prefix_is;
       field_is = refl;
       rising = λ other lt.
           let far : is_lt (bytes_cmp field other) ≡ true =
@@ -90,24 +90,25 @@ begins_with_next line samples front field rest key k value left h same few next 
     }
 
 -- what is read of the first field
-pub first_read : (line key : List ℕ) (value : ℤ) (front field rest : List ℕ) → IsKeyText key → IsCut key front field
+pub first_read : (line key : List ℕ) (value : ℤ) (prefix field rest : List ℕ) → IsKeyText key → IsCut key prefix field
     → HasFirst line key value rest
-    → BeginsWith line ((key, value) ∷ []) front field rest
-first_read line key value front field rest is cut first =
+    → BeginsWith line ((key, value) ∷ []) prefix field rest
+first_read line key value prefix field rest is cut first =
     let k = is_written key is in
-    let parts = cut (front_of key k) k.field (key_split key k) in
+    let parts = cut (prefix_of key k) k.field (key_split key k) in
     rw (parts.0, parts.1) (begins_with_first line key value rest k first)
 
 -- what is read of a further one
-pub next_read : (line : List ℕ) (samples : List Sample) (front field rest key : List ℕ) (value : ℤ)
+pub next_read : (line : List ℕ) (samples : List Sample) (prefix field rest key : List ℕ) (value : ℤ)
     (after last value_text left : List ℕ)
-    → IsKeyText key → IsCut key after last → BeginsWith line samples front field rest → after ≡ front
+    → IsKeyText key → IsCut key after last → BeginsWith line samples prefix field rest → after ≡ prefix
     → length samples < MAX_FIELDS
     → is_lt (bytes_cmp field last) ≡ true → rest ≡ COMMA ∷ (last ++ EQUALS ∷ value_text) → IsValue value_text value left
     → BeginsWith line (samples ++ (key, value) ∷ []) after last left
-next_read line samples front field rest key value after last value_text left is cut read same few above whole is_value =
+next_read line samples prefix field rest key value after last value_text left is cut read same few above whole is_value
+    =
     let k = is_written key is in
-    let parts = cut (front_of key k) k.field (key_split key k) in
+    let parts = cut (prefix_of key k) k.field (key_split key k) in
     let next : IsNext field rest key k value left = record {
       value_text = value_text;
       whole = whole ∙ ap (λ (t : List ℕ). COMMA ∷ (t ++ EQUALS ∷ value_text)) parts.1;
@@ -115,13 +116,13 @@ next_read line samples front field rest key value after last value_text left is 
       above = ap (λ (t : List ℕ). is_lt (bytes_cmp field t)) (sym parts.1) ∙ above;
     } in
     rw (parts.0, parts.1)
-    (begins_with_next line samples front field rest key k value left read (sym same ∙ parts.0) few next)
+    (begins_with_next line samples prefix field rest key k value left read (sym same ∙ parts.0) few next)
 
 -- the time after the last one
-pub says_at_end : (precision : Precision) (line : List ℕ) (samples : List Sample) (front field rest : List ℕ)
-    (found : Option (Option ℤ)) → BeginsWith line samples front field rest
+pub says_at_end : (precision : Precision) (line : List ℕ) (samples : List Sample) (prefix field rest : List ℕ)
+    (found : Option (Option ℤ)) → BeginsWith line samples prefix field rest
     → OnSome found (begins COMMA rest ≡ false) → IfSome found (λ time. ending_at precision (skip_spaces rest) ≡ Ok time)
     → IfSome found (λ time. SaysSamples precision line samples time)
-says_at_end precision line samples front field rest None read ended at = tt
-says_at_end precision line samples front field rest (Some time) read ended at =
-    says_samples precision line samples front field rest time read ended at
+says_at_end precision line samples prefix field rest None read ended at = tt
+says_at_end precision line samples prefix field rest (Some time) read ended at =
+    says_samples precision line samples prefix field rest time read ended at

@@ -16,8 +16,8 @@ pub mod GatheredLemmas
 pub mod NameLemmas
 pub mod SizeLemmas
 pub mod KeyLemmas
-pub mod KeyFrontLemmas
-pub mod FrontLemmas
+pub mod KeyPrefixLemmas
+pub mod PrefixLemmas
 pub mod ReadPointLemmas
 pub mod LineLemmas
 pub mod WrittenLemmas

@@ -28,18 +28,18 @@ use Rattle.rr_line.proofs.KeyLemmas.{has_keys, none_skipped}
 use Rattle.rr_line.proofs.NameLemmas.{none_in_parts}
 use Rattle.rr_line.proofs.PointLemmas.{IsTextOf, text_agrees}
 
-view_to : (precision : Precision) (line : List ℕ) (said : LineView) → IsTextOf precision (content line) said
-    → IsLineOf precision line (Ok said)
+view_to : (precision : Precision) (line : List ℕ) (parsed : LineView) → IsTextOf precision (content line) parsed
+    → IsLineOf precision line (Ok parsed)
 view_to precision line nothing h = h
 view_to precision line (point p) h = record { parts = h.0; short = h.1 }
 
-view_from : (precision : Precision) (line : List ℕ) (said : LineView) → IsLineOf precision line (Ok said)
-    → IsTextOf precision (content line) said
+view_from : (precision : Precision) (line : List ℕ) (parsed : LineView) → IsLineOf precision line (Ok parsed)
+    → IsTextOf precision (content line) parsed
 view_from precision line nothing h = h
 view_from precision line (point p) h = (h.parts, h.short)
 
 line_agrees : (precision : Precision) (line : List ℕ)
-    → Agrees (reading precision line) (λ said. IsLineOf precision line (Ok said)) (HasFault precision line)
+    → Agrees (reading precision line) (λ parsed. IsLineOf precision line (Ok parsed)) (HasFault precision line)
 line_agrees precision line =
     Agrees-as (reading precision line) (IsTextOf precision (content line)) _ (TextFault precision (content line)) _
     (view_to precision line) (view_from precision line) (λ fault h. h) (λ fault h. h)
@@ -47,27 +47,28 @@ line_agrees precision line =
 
 -- what is read is of the grammar
 held : (precision : Precision) (line : List ℕ) (read : Result LineView LineFault)
-    → Holds (λ said. IsLineOf precision line (Ok said)) (HasFault precision line) read → IsLineOf precision line read
-held precision line (Ok said) h = h
+    → Holds (λ parsed. IsLineOf precision line (Ok parsed)) (HasFault precision line) read
+        → IsLineOf precision line read
+held precision line (Ok parsed) h = h
 held precision line (Err fault) h = h
 
 pub line_found : (precision : Precision) (line : List ℕ) → IsLineOf precision line (reading precision line)
 line_found precision line = held precision line (reading precision line) (line_agrees precision line).holds
 
 -- what is of the grammar is read
-pub line_only : (precision : Precision) (line : List ℕ) (said : Result LineView LineFault)
-    → IsLineOf precision line said → reading precision line ≡ said
-line_only precision line (Ok said) h = (line_agrees precision line).good said h
+pub line_only : (precision : Precision) (line : List ℕ) (parsed : Result LineView LineFault)
+    → IsLineOf precision line parsed → reading precision line ≡ parsed
+line_only precision line (Ok parsed) h = (line_agrees precision line).good parsed h
 line_only precision line (Err fault) h = (line_agrees precision line).bad fault h
 
 -- a text that says something is read as a point, or refused
-pub point_said : (precision : Precision) (line text : List ℕ) (p : PointView) → text ≡ content line
+pub point_parsed : (precision : Precision) (line text : List ℕ) (p : PointView) → text ≡ content line
     → false ≡ is_nothing text → point_at precision text ≡ Ok p → reading precision line ≡ Ok (point p)
-point_said precision line text p e said read = ap (text_at precision) (sym e) ∙ rw (sym said, read) refl
+point_parsed precision line text p e parsed read = ap (text_at precision) (sym e) ∙ rw (sym parsed, read) refl
 
 pub point_refused : (precision : Precision) (line text : List ℕ) (fault : LineFault) → text ≡ content line
     → false ≡ is_nothing text → point_at precision text ≡ Err fault → reading precision line ≡ Err fault
-point_refused precision line text fault e said read = ap (text_at precision) (sym e) ∙ rw (sym said, read) refl
+point_refused precision line text fault e parsed read = ap (text_at precision) (sym e) ∙ rw (sym parsed, read) refl
 
 -- no line feed is in what is left of a line without one
 mapped_some : {A B : Type 0} (f : A → B) (o : Option A) (y : B) → option_map f o ≡ Some y
@@ -75,17 +76,17 @@ mapped_some : {A B : Type 0} (f : A → B) (o : Option A) (y : B) → option_map
 mapped_some f None y e = absurd cc
 mapped_some f (Some x) y e = (x, refl, cc)
 
-before_last_is : (byte : ℕ) (text front : List ℕ) → before_last byte text ≡ Some front
-    → (last : ℕ) × (text ≡ front ++ last ∷ [])
-before_last_is byte [] front e = absurd cc
-before_last_is byte (last ∷ []) front e =
+before_last_is : (byte : ℕ) (text prefix : List ℕ) → before_last byte text ≡ Some prefix
+    → (last : ℕ) × (text ≡ prefix ++ last ∷ [])
+before_last_is byte [] prefix e = absurd cc
+before_last_is byte (last ∷ []) prefix e =
     elim (cases_Bool (eqb last byte)) [
-      | inl here ↦ let none : [] ≡ front = (let cut = rw here at e in cc) in
+      | inl here ↦ let none : [] ≡ prefix = (let cut = rw here at e in cc) in
           (last, ap (λ (l : List ℕ). l ++ last ∷ []) none)
       | inr other ↦ absurd (let cut = rw other at e in cc)
     ]
-before_last_is byte (first ∷ next ∷ rest) front e =
-    let later = mapped_some (λ (l : List ℕ). first ∷ l) (before_last byte (next ∷ rest)) front e in
+before_last_is byte (first ∷ next ∷ rest) prefix e =
+    let later = mapped_some (λ (l : List ℕ). first ∷ l) (before_last byte (next ∷ rest)) prefix e in
     let ends = before_last_is byte (next ∷ rest) later.0 later.1 in
     (ends.0, ap (λ (l : List ℕ). first ∷ l) ends.1 ∙ ap (λ (l : List ℕ). l ++ ends.0 ∷ []) later.2)
 
@@ -95,8 +96,8 @@ none_in_content line text none e = subst HasNoLineFeed (sym e)
   where
     at : (o : Option (List ℕ)) → before_last RETURN line ≡ o → HasNoLineFeed (unwrap_or o line)
     at None cut = none
-    at (Some front) cut = let ends = before_last_is RETURN line front cut in
-        (none_in_parts front (ends.0 ∷ []) (subst HasNoLineFeed ends.1 none)).0
+    at (Some prefix) cut = let ends = before_last_is RETURN line prefix cut in
+        (none_in_parts prefix (ends.0 ∷ []) (subst HasNoLineFeed ends.1 none)).0
 
 -- each field of a point that is read has a key
 pub keys_of_point : (precision : Precision) (line : List ℕ) (p : PointView) → HasNoLineFeed line
@@ -109,7 +110,7 @@ pub few_of_point : (precision : Precision) (line : List ℕ) (p : PointView) →
     → length p.fields ≤ MAX_FIELDS
 few_of_point precision line p h =
     let fields = h.parts.are_fields in
-    omega (arith, ap length fields.all, length-append fields.front (fields.last ∷ []), fields.new.few)
+    omega (arith, ap length fields.all, length-append fields.prefix (fields.last ∷ []), fields.new.few)
 
 pub writable_point : (precision : Precision) (line : List ℕ) (p : PointView) → HasNoLineFeed line
     → IsPointOf precision line p → IsWritable p
@@ -183,14 +184,14 @@ time_is_no_memory precision text fault (time.out_of_range word is why f) =
 
 pub fault_is_no_memory : (precision : Precision) (text : List ℕ) (fault : LineFault) → TextFault precision text fault
     → fault ≢ Memory
-fault_is_no_memory precision text fault (no_measurement said none is) =
+fault_is_no_memory precision text fault (no_measurement parsed none is) =
     is_no_memory fault NoMeasurement is (λ e. absurd cc)
-fault_is_no_memory precision text fault (at_tag measurement tags tag_text front bad) =
+fault_is_no_memory precision text fault (at_tag measurement tags tag_text prefix bad) =
     tag_is_no_memory tags tag_text fault bad
-fault_is_no_memory precision text fault (no_fields measurement tags gap front ended left is) =
+fault_is_no_memory precision text fault (no_fields measurement tags gap prefix ended left is) =
     is_no_memory fault NoFields is (λ e. absurd cc)
-fault_is_no_memory precision text fault (at_field measurement tags fields_text fields field_text front leading bad) =
+fault_is_no_memory precision text fault (at_field measurement tags fields_text fields field_text prefix leading bad) =
     field_is_no_memory fields field_text fault bad
-fault_is_no_memory precision text fault (at_time measurement tags fields_text fields ending front are bad) =
+fault_is_no_memory precision text fault (at_time measurement tags fields_text fields ending prefix are bad) =
     time_is_no_memory precision ending fault bad
 fault_is_no_memory precision text fault (long_key p parts long is) = is_no_memory fault KeyTooLong is (λ e. absurd cc)

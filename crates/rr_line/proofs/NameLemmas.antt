@@ -19,14 +19,14 @@ pub record IsGood (class : Class) (name : List ℕ) : Type 0 where
   pub named : is_name (unescape class name) ≡ true
 
 -- a text without a line feed has none in its parts
-pub none_in_parts : (front rest : List ℕ) → HasNoLineFeed (front ++ rest) → HasNoLineFeed front × HasNoLineFeed rest
-none_in_parts front rest h =
-    or_parts (list_any (λ byte. eqb byte LINE_FEED) front) (list_any (λ byte. eqb byte LINE_FEED) rest)
-    (sym (list_any-append (λ byte. eqb byte LINE_FEED) front rest) ∙ h)
+pub none_in_parts : (prefix rest : List ℕ) → HasNoLineFeed (prefix ++ rest) → HasNoLineFeed prefix × HasNoLineFeed rest
+none_in_parts prefix rest h =
+    or_parts (list_any (λ byte. eqb byte LINE_FEED) prefix) (list_any (λ byte. eqb byte LINE_FEED) rest)
+    (sym (list_any-append (λ byte. eqb byte LINE_FEED) prefix rest) ∙ h)
 
-none_of_text : (text front rest : List ℕ) → HasNoLineFeed text → text ≡ front ++ rest
-    → HasNoLineFeed front × HasNoLineFeed rest
-none_of_text text front rest h whole = none_in_parts front rest (subst HasNoLineFeed whole h)
+none_of_text : (text prefix rest : List ℕ) → HasNoLineFeed text → text ≡ prefix ++ rest
+    → HasNoLineFeed prefix × HasNoLineFeed rest
+none_of_text text prefix rest h whole = none_in_parts prefix rest (subst HasNoLineFeed whole h)
 
 is_good : (class : Class) (text name rest : List ℕ) → HasNoLineFeed text → IsName class text name rest → 0 < length rest
     → IsGood class name

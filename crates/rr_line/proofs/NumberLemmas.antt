@@ -16,7 +16,7 @@ use Rattle.rr_line.specs.declared.mark.TheConstants.{INTEGER_MARK, QUOTE}
 use Rattle.rr_line.specs.Integer.{IsDigit, IsNumber}
 use Rattle.std.proofs.lemmas.List.Folds.{list_any-append}
 use Rattle.rr_line.proofs.IntegerLemmas.{read_from_digits}
-use Rattle.rr_line.proofs.KeyFrontLemmas.{front_taken}
+use Rattle.rr_line.proofs.KeyPrefixLemmas.{prefix_taken}
 use Rattle.rr_line.proofs.PartLemmas.{not_zero, before_last_there}
 use Rattle.rr_line.specs.Value.{IsValue, EndsValue, ends_value, value_of}
 
@@ -78,11 +78,11 @@ digits_are digit digits is =
     let all = (and_parts _ (list_all is_ascii_digit (digit ∷ digits)) is).1 in
     ((and_parts (is_ascii_digit digit) (list_all is_ascii_digit digits) all).0, all)
 
--- text = front rest, and these are the digits of the front
+-- text = prefix rest, and these are the digits of the prefix
 pub record HasDigits (text digits rest : List ℕ) : Type 0 where
-  pub front : List ℕ
-  pub without_sign : unsigned front ≡ digits
-  pub whole : text ≡ front ++ rest
+  pub prefix : List ℕ
+  pub without_sign : unsigned prefix ≡ digits
+  pub whole : text ≡ prefix ++ rest
 
 -- what precedes the rest is the digits, with a minus or not
 pub sign_of : (text digits rest : List ℕ) → unsigned text ≡ digits ++ rest → is_digits digits ≡ true
@@ -92,12 +92,12 @@ sign_of [] (digit ∷ digits) rest e is = absurd cc
 sign_of (byte ∷ text) (digit ∷ digits) rest e is =
     elim (cases_Bool (eqb byte MINUS)) [
       | inl minus ↦ record {
-        front = byte ∷ digit ∷ digits;
+        prefix = byte ∷ digit ∷ digits;
         without_sign = rw minus refl;
         whole = ap (λ (t : List ℕ). byte ∷ t) (rw minus at e);
       }
       | inr plain ↦ record {
-        front = digit ∷ digits;
+        prefix = digit ∷ digits;
         without_sign = rw (digit_stays digit (digits_are digit digits is).0).1 refl;
         whole = rw plain at e;
       }
@@ -111,63 +111,63 @@ number_digits digits number writes =
       | inr none ↦ absurd (let at = rw none at writes in cc)
     ]
 
--- an integer has no byte that ends a value, and no quote at its front
-record IsPlainInteger (front rest : List ℕ) : Type 0 where
-  pub plain : list_any ends_value front ≡ false
-  pub bare : begins QUOTE (front ++ rest) ≡ false
+-- an integer has no byte that ends a value, and no quote at its beginning
+record IsPlainInteger (prefix rest : List ℕ) : Type 0 where
+  pub plain : list_any ends_value prefix ≡ false
+  pub bare : begins QUOTE (prefix ++ rest) ≡ false
 
-plain_integer : (front rest : List ℕ) → is_digits (unsigned front) ≡ true → IsPlainInteger front rest
+plain_integer : (prefix rest : List ℕ) → is_digits (unsigned prefix) ≡ true → IsPlainInteger prefix rest
 plain_integer [] rest is = absurd cc
-plain_integer (byte ∷ front) rest is =
+plain_integer (byte ∷ prefix) rest is =
     elim (cases_Bool (eqb byte MINUS)) [
       | inl minus ↦
           let same = eqb-true byte MINUS minus in
-          let after : is_digits front ≡ true = rw minus at is in
-          let all = (and_parts _ (list_all is_ascii_digit front) after).1 in
-          record { plain = rw (same, plain_digits front all) refl; bare = rw same refl }
+          let after : is_digits prefix ≡ true = rw minus at is in
+          let all = (and_parts _ (list_all is_ascii_digit prefix) after).1 in
+          record { plain = rw (same, plain_digits prefix all) refl; bare = rw same refl }
       | inr other ↦
-          let digits = digits_are byte front (rw other at is) in
+          let digits = digits_are byte prefix (rw other at is) in
           let stays = digit_stays byte digits.0 in
-          record { plain = plain_digits (byte ∷ front) digits.1; bare = stays.2 }
+          record { plain = plain_digits (byte ∷ prefix) digits.1; bare = stays.2 }
     ]
 
-value_marked : (front : List ℕ) → is_digits (unsigned front) ≡ true
-    → value_of (front ++ INTEGER_MARK ∷ []) ≡ ok_or (integer_at front) IntegerRange
-value_marked front is =
-    let marked = before_last_there INTEGER_MARK front INTEGER_MARK in
+value_marked : (prefix : List ℕ) → is_digits (unsigned prefix) ≡ true
+    → value_of (prefix ++ INTEGER_MARK ∷ []) ≡ ok_or (integer_at prefix) IntegerRange
+value_marked prefix is =
+    let marked = before_last_there INTEGER_MARK prefix INTEGER_MARK in
     rw (marked, is) refl
 
 -- an integer and its mark are a value
-pub integer_value : (text front rest : List ℕ) (number : ℤ) → text ≡ front ++ INTEGER_MARK ∷ rest → EndsValue rest
-    → Some number ≡ integer_at front
+pub integer_value : (text prefix rest : List ℕ) (number : ℤ) → text ≡ prefix ++ INTEGER_MARK ∷ rest → EndsValue rest
+    → Some number ≡ integer_at prefix
     → IsValue text number rest
-integer_value text front rest number whole ended read =
-    let is = read_from_digits front number read in
-    let plain = plain_integer front (INTEGER_MARK ∷ rest) is.0 in (
-      front ++ INTEGER_MARK ∷ [],
+integer_value text prefix rest number whole ended read =
+    let is = read_from_digits prefix number read in
+    let plain = plain_integer prefix (INTEGER_MARK ∷ rest) is.0 in (
+      prefix ++ INTEGER_MARK ∷ [],
       record {
         bare = ap (begins QUOTE) whole ∙ plain.bare;
-        plain = list_any-append ends_value front (INTEGER_MARK ∷ []) ∙ rw plain.plain refl;
+        plain = list_any-append ends_value prefix (INTEGER_MARK ∷ []) ∙ rw plain.plain refl;
         ended = ended;
         whole = whole ∙ simp append_assoc;
       },
-      value_marked front is.0 ∙ ap (λ (o : Option ℤ). ok_or o IntegerRange) (sym read),
+      value_marked prefix is.0 ∙ ap (λ (o : Option ℤ). ok_or o IntegerRange) (sym read),
     )
 
 -- the digits of a number that was read, with what may be their sign, and what precedes the rest
 pub record IsRead (text : List ℕ) (number : ℕ) (rest : List ℕ) : Type 0 where
-  pub front : List ℕ
-  pub taken : take (length text - length rest) text ≡ front
-  pub writes : number_at (unsigned front) ≡ Some number
-  pub whole : text ≡ front ++ rest
+  pub prefix : List ℕ
+  pub taken : take (length text - length rest) text ≡ prefix
+  pub writes : number_at (unsigned prefix) ≡ Some number
+  pub whole : text ≡ prefix ++ rest
 
 pub is_read : (text digits : List ℕ) (number : ℕ) (rest : List ℕ) → digits ≡ unsigned text
     → IsNumber digits number rest → IsRead text number rest
 is_read text digits number rest without h =
     let sign = sign_of text h.digits rest (sym without ∙ h.whole) (number_digits h.digits number h.writes) in
     record {
-      front = sign.front;
-      taken = front_taken text sign.front rest sign.whole;
+      prefix = sign.prefix;
+      taken = prefix_taken text sign.prefix rest sign.whole;
       writes = ap number_at sign.without_sign ∙ h.writes;
       whole = sign.whole;
     }

@@ -17,10 +17,10 @@ use Rattle.rr_line.specs.Reading.{name_at}
 use Rattle.rr_line.proofs.UnitLemmas.{scanned, is_name_scanned, no_name_scanned, nothing_scanned}
 use Rattle.rr_line.proofs.AgreeLemmas.{Agrees, Agrees-as, Agrees-unless, Agrees-ok}
 
--- the cut of a text after a front of this length
-pub cut_is : (len : ℕ) (text front rest : List ℕ) → len ≡ length front → text ≡ front ++ rest
-    → cut_after len text ≡ (front, rest)
-cut_is len text front rest e whole = rw (e, whole, take-append_seam front rest, drop-append_seam front rest) refl
+-- the cut of a text after a prefix of this length
+pub cut_is : (len : ℕ) (text prefix rest : List ℕ) → len ≡ length prefix → text ≡ prefix ++ rest
+    → cut_after len text ≡ (prefix, rest)
+cut_is len text prefix rest e whole = rw (e, whole, take-append_seam prefix rest, drop-append_seam prefix rest) refl
 
 pub first_is : {A B : Type 0} (x y : A × B) → x ≡ y → (x.0 ≡ y.0) × (x.1 ≡ y.1)
 first_is x y e = (ap (λ p. p.0) e, ap (λ p. p.1) e)
@@ -53,17 +53,17 @@ name_to : (class : Class) (text : List ℕ) (p : List ℕ × List ℕ)
     → (eqb (name_len class text) 0 ≡ false) × (cut_after (name_len class text) text ≡ p) → IsName class text p.0 p.1
 name_to class text p h =
     let n = name_len class text in
-    let front : take n text ≡ p.0 = ap (λ (q : List ℕ × List ℕ). q.0) h.1 in
+    let prefix : take n text ≡ p.0 = ap (λ (q : List ℕ × List ℕ). q.0) h.1 in
     let back : drop n text ≡ p.1 = ap (λ (q : List ℕ × List ℕ). q.1) h.1 in
-    let len : length p.0 ≡ n = ap length (sym front) ∙ length-take-le n text (name_len_within class text) in
+    let len : length p.0 ≡ n = ap length (sym prefix) ∙ length-take-le n text (name_len_within class text) in
     is_name_scanned class text p.0 p.1 (omega (arith, len, above_zero n h.0)) (sym len)
-    (sym (take-append-drop n text) ∙ rw (front, back) refl)
+    (sym (take-append-drop n text) ∙ rw (prefix, back) refl)
 
 name_from : (class : Class) (text : List ℕ) (p : List ℕ × List ℕ) → IsName class text p.0 p.1
     → (eqb (name_len class text) 0 ≡ false) × (cut_after (name_len class text) text ≡ p)
-name_from class text (front, rest) h =
-    let len = scanned class text front rest h in
-    (not_zero _ _ len h.some, cut_is (name_len class text) text front rest len h.whole)
+name_from class text (prefix, rest) h =
+    let len = scanned class text prefix rest h in
+    (not_zero _ _ len h.some, cut_is (name_len class text) text prefix rest len h.whole)
 
 pub name_agrees : (class : Class) (missing : LineFault) (text : List ℕ)
     → Agrees (name_at class missing text) (λ p. IsName class text p.0 p.1)
@@ -76,7 +76,7 @@ name_agrees class missing text =
     (Agrees-unless missing (eqb n 0) (Ok (cut_after n text)) (λ p. cut_after n text ≡ p) (λ fault. ⊥)
     (λ e. Agrees-ok (cut_after n text)))
 
--- a byte at the front
+-- a byte at the beginning
 pub strip_some : (byte : ℕ) (text rest : List ℕ) → strip byte text ≡ Some rest → text ≡ byte ∷ rest
 strip_some byte [] rest e = absurd cc
 strip_some byte (first ∷ text) rest e =
@@ -117,13 +117,13 @@ found_none test text h =
     (λ k lt. false_from_ne_true _ (h k (omega arith) lt)) (λ lt. absurd (omega (arith, lt))))
 
 -- the last byte of a text
-pub before_last_there : (byte : ℕ) (front : List ℕ) (last : ℕ)
-    → before_last byte (front ++ last ∷ []) ≡ cond (eqb last byte) (Some front) None
+pub before_last_there : (byte : ℕ) (prefix : List ℕ) (last : ℕ)
+    → before_last byte (prefix ++ last ∷ []) ≡ cond (eqb last byte) (Some prefix) None
 before_last_there byte [] last = refl
 before_last_there byte (first ∷ []) last = elim (cases_Bool (eqb last byte))
     [ inl here ↦ rw here refl | inr other ↦ rw other refl ]
-before_last_there byte (first ∷ next ∷ front) last =
-    let later = ap (option_map (λ (rest : List ℕ). first ∷ rest)) (before_last_there byte (next ∷ front) last) in
+before_last_there byte (first ∷ next ∷ prefix) last =
+    let later = ap (option_map (λ (rest : List ℕ). first ∷ rest)) (before_last_there byte (next ∷ prefix) last) in
     elim (cases_Bool (eqb last byte)) [
       | inl here ↦ let e = rw here at later in rw here e
       | inr other ↦ let e = rw other at later in rw other e

@@ -147,9 +147,9 @@ steps_agree precision text =
 pub leads_to_tags : (text : List ℕ) → is_nothing text ≡ false → (measurement : List ℕ × List ℕ)
     → IsName Measurement text measurement.0 measurement.1 → (tags : List Tag × List ℕ) → HasTags [] measurement.1 tags
     → LeadsToTags text measurement.0 tags.0 tags.1
-leads_to_tags text said measurement name tags (more, are, ended, all) =
+leads_to_tags text parsed measurement name tags (more, are, ended, all) =
     record {
-      said = said;
+      present = parsed;
       tags_text = measurement.1;
       name = name;
       are_tags =
@@ -159,9 +159,9 @@ leads_to_tags text said measurement name tags (more, are, ended, all) =
 pub leads_to_fields : (text : List ℕ) → is_nothing text ≡ false → (measurement : List ℕ × List ℕ)
     → IsName Measurement text measurement.0 measurement.1 → (tags : List Tag × List ℕ) → HasTags [] measurement.1 tags
     → (fields_text : List ℕ) → IsGap tags.1 fields_text → LeadsToFields text measurement.0 tags.0 fields_text
-leads_to_fields text said measurement name tags has fields_text gap = record {
+leads_to_fields text parsed measurement name tags has fields_text gap = record {
   gap = tags.1;
-  front = leads_to_tags text said measurement name tags has;
+  prefix = leads_to_tags text parsed measurement name tags has;
   ended = has.2;
   skipped = gap.1;
   some = subst (λ (t : List ℕ). 0 < length t) gap.1 (some_left (skip_spaces tags.1) gap.0);
@@ -169,9 +169,9 @@ leads_to_fields text said measurement name tags has fields_text gap = record {
 
 pub are_fields : (text : List ℕ) (fields : List Field × List ℕ) → HasFields [] text fields
     → AreFields text fields.0 fields.1
-are_fields text fields (front, last, last_text, leading, ends, new, ended, all) =
+are_fields text fields (prefix, last, last_text, leading, ends, new, ended, all) =
     record {
-      front = front;
+      prefix = prefix;
       last = last;
       last_text = last_text;
       leading = leading;
@@ -184,17 +184,17 @@ are_fields text fields (front, last, last_text, leading, ends, new, ended, all) 
 
 fields_are : (text : List ℕ) (fields : List Field) (rest : List ℕ) → AreFields text fields rest
     → HasFields [] text (fields, rest)
-fields_are text fields rest h = (h.front, h.last, h.last_text, h.leading, h.ends, h.new, h.ended, h.all)
+fields_are text fields rest h = (h.prefix, h.last, h.last_text, h.leading, h.ends, h.new, h.ended, h.all)
 
 has_parts : (precision : Precision) (text : List ℕ) → is_nothing text ≡ false → (measurement : List ℕ × List ℕ)
     → IsName Measurement text measurement.0 measurement.1 → (tags : List Tag × List ℕ) → HasTags [] measurement.1 tags
     → (fields_text : List ℕ) → IsGap tags.1 fields_text → (fields : List Field × List ℕ)
     → HasFields [] fields_text fields → (time : Option ℤ) → IsEnding precision fields.1 time
     → HasParts precision text (point_of measurement.0 tags.0 fields.0 time)
-has_parts precision text said measurement name tags has fields_text gap fields has_fields time is_ending = record {
+has_parts precision text parsed measurement name tags has fields_text gap fields has_fields time is_ending = record {
   fields_text = fields_text;
   ending = fields.1;
-  front = leads_to_fields text said measurement name tags has fields_text gap;
+  prefix = leads_to_fields text parsed measurement name tags has fields_text gap;
   are_fields = are_fields fields_text fields has_fields;
   is_ending = is_ending;
 }
@@ -205,13 +205,13 @@ IsTextPoint precision text p = HasParts precision text p × (has_long_key p ≡ 
 
 point_to : (precision : Precision) (text : List ℕ) → is_nothing text ≡ false → (p : PointView) → Steps precision text p
     → IsTextPoint precision text p
-point_to precision text said p (
+point_to precision text parsed p (
   measurement,
   name,
   (tags, has, (fields_text, gap, (fields, has_fields, (time, is_ending, (short, is))))),
 ) =
     subst (IsTextPoint precision text) is (
-      has_parts precision text said measurement name tags has fields_text gap
+      has_parts precision text parsed measurement name tags has fields_text gap
           fields has_fields time is_ending,
       short,
     )
@@ -234,15 +234,15 @@ gap_is gap fields_text skipped some = (
 point_from : (precision : Precision) (text : List ℕ) (p : PointView) → IsTextPoint precision text p
     → Steps precision text p
 point_from precision text p (h, short) =
-    let front = h.front.front in (
-      (p.measurement, front.tags_text),
-      front.name,
+    let prefix = h.prefix.prefix in (
+      (p.measurement, prefix.tags_text),
+      prefix.name,
       (
-        (p.tags, h.front.gap),
-        tags_are text p.measurement p.tags h.front.gap front h.front.ended,
+        (p.tags, h.prefix.gap),
+        tags_are text p.measurement p.tags h.prefix.gap prefix h.prefix.ended,
         (
           h.fields_text,
-          gap_is h.front.gap h.fields_text h.front.skipped h.front.some,
+          gap_is h.prefix.gap h.fields_text h.prefix.skipped h.prefix.some,
           (
             (p.fields, h.ending),
             fields_are h.fields_text p.fields h.ending h.are_fields,
@@ -255,38 +255,39 @@ point_from precision text p (h, short) =
 -- a fault that is read, and one of the grammar
 fault_to : (precision : Precision) (text : List ℕ) → is_nothing text ≡ false → (fault : LineFault)
     → Stops precision text fault → TextFault precision text fault
-fault_to precision text said fault (inl h) = no_measurement said h.0 h.1
-fault_to precision text said fault (inr (measurement, name, inl (tags, tag_text, are, bad))) =
-    at_tag measurement.0 tags tag_text (record { said = said; tags_text = measurement.1; name = name; are_tags = are })
+fault_to precision text parsed fault (inl h) = no_measurement parsed h.0 h.1
+fault_to precision text parsed fault (inr (measurement, name, inl (tags, tag_text, are, bad))) =
+    at_tag measurement.0 tags tag_text
+        (record { present = parsed; tags_text = measurement.1; name = name; are_tags = are })
     bad
-fault_to precision text said fault (inr (measurement, name, inr (tags, has, inl (inl h)))) =
-    no_fields measurement.0 tags.0 tags.1 (leads_to_tags text said measurement name tags has) has.2
+fault_to precision text parsed fault (inr (measurement, name, inr (tags, has, inl (inl h)))) =
+    no_fields measurement.0 tags.0 tags.1 (leads_to_tags text parsed measurement name tags has) has.2
     (none_left (skip_spaces tags.1) h.0) h.1
-fault_to precision text said fault (inr (measurement, name, inr (tags, has, inl (inr h)))) = absurd h.1
-fault_to precision text said fault (inr (
+fault_to precision text parsed fault (inr (measurement, name, inr (tags, has, inl (inr h)))) = absurd h.1
+fault_to precision text parsed fault (inr (
   measurement,
   name,
   inr (tags, has, inr (fields_text, gap, inl (fields, field_text, leading, bad))),
 )) =
     at_field measurement.0 tags.0 fields_text fields field_text
-    (leads_to_fields text said measurement name tags has fields_text gap) leading bad
-fault_to precision text said fault (inr (
+    (leads_to_fields text parsed measurement name tags has fields_text gap) leading bad
+fault_to precision text parsed fault (inr (
   measurement,
   name,
   inr (tags, has, inr (fields_text, gap, inr (fields, has_fields, inl bad))),
 )) =
     at_time measurement.0 tags.0 fields_text fields.0 fields.1
-    (leads_to_fields text said measurement name tags has fields_text gap) (are_fields fields_text fields has_fields)
+    (leads_to_fields text parsed measurement name tags has fields_text gap) (are_fields fields_text fields has_fields)
     bad
-fault_to precision text said fault (inr (
+fault_to precision text parsed fault (inr (
   measurement,
   name,
   inr (tags, has, inr (fields_text, gap, inr (fields, has_fields, inr (time, is_ending, inl h)))),
 )) =
     long_key (point_of measurement.0 tags.0 fields.0 time)
-    (has_parts precision text said measurement name tags has fields_text gap fields has_fields time is_ending) h.0
+    (has_parts precision text parsed measurement name tags has fields_text gap fields has_fields time is_ending) h.0
     h.1
-fault_to precision text said fault (inr (
+fault_to precision text parsed fault (inr (
   measurement,
   name,
   inr (tags, has, inr (fields_text, gap, inr (fields, has_fields, inr (time, is_ending, inr h)))),
@@ -298,27 +299,27 @@ fault_in_fields : (precision : Precision) (text measurement : List ℕ) (tags : 
     → FieldsOr precision measurement tags fields_text fault → Stops precision text fault
 fault_in_fields precision text measurement tags fields_text fault h bad =
     inr (
-      (measurement, h.front.tags_text),
-      h.front.name,
+      (measurement, h.prefix.tags_text),
+      h.prefix.name,
       inr (
         (tags, h.gap),
-        tags_are text measurement tags h.gap h.front h.ended,
+        tags_are text measurement tags h.gap h.prefix h.ended,
         inr (fields_text, gap_is h.gap fields_text h.skipped h.some, bad),
       ),
     )
 
 fault_from : (precision : Precision) (text : List ℕ) (fault : LineFault) → TextFault precision text fault
     → Stops precision text fault
-fault_from precision text fault (no_measurement said none is) = inl (none, is)
-fault_from precision text fault (at_tag measurement tags tag_text front bad) =
-    inr ((measurement, front.tags_text), front.name, inl (tags, tag_text, front.are_tags, bad))
-fault_from precision text fault (no_fields measurement tags gap front ended left is) =
+fault_from precision text fault (no_measurement parsed none is) = inl (none, is)
+fault_from precision text fault (at_tag measurement tags tag_text prefix bad) =
+    inr ((measurement, prefix.tags_text), prefix.name, inl (tags, tag_text, prefix.are_tags, bad))
+fault_from precision text fault (no_fields measurement tags gap prefix ended left is) =
     inr (
-      (measurement, front.tags_text),
-      front.name,
+      (measurement, prefix.tags_text),
+      prefix.name,
       inr (
         (tags, gap),
-        tags_are text measurement tags gap front ended,
+        tags_are text measurement tags gap prefix ended,
         inl (inl (ap (λ (t : List ℕ). eqb (length t) 0) left, is)),
       ),
     )
@@ -328,7 +329,7 @@ fault_from precision text fault (at_time measurement tags fields_text fields end
     fault_in_fields precision text measurement tags fields_text fault h
     (inr ((fields, ending), fields_are fields_text fields ending are, inl bad))
 fault_from precision text fault (long_key p h long is) =
-    fault_in_fields precision text p.measurement p.tags h.fields_text fault h.front
+    fault_in_fields precision text p.measurement p.tags h.fields_text fault h.prefix
     (inr (
       (p.fields, h.ending),
       fields_are h.fields_text p.fields h.ending h.are_fields,
@@ -340,19 +341,19 @@ abbrev pub IsTextOf : Precision → List ℕ → LineView → Type 0
 IsTextOf precision text nothing = is_nothing text ≡ true
 IsTextOf precision text (point p) = IsTextPoint precision text p
 
-said_by_parts : (precision : Precision) (text : List ℕ) (p : PointView) → HasParts precision text p
+parsed_by_parts : (precision : Precision) (text : List ℕ) (p : PointView) → HasParts precision text p
     → is_nothing text ≡ false
-said_by_parts precision text p h = h.front.front.said
+parsed_by_parts precision text p h = h.prefix.prefix.present
 
-said_by_fault : (precision : Precision) (text : List ℕ) (fault : LineFault) → TextFault precision text fault
+parsed_by_fault : (precision : Precision) (text : List ℕ) (fault : LineFault) → TextFault precision text fault
     → is_nothing text ≡ false
-said_by_fault precision text fault (no_measurement said none is) = said
-said_by_fault precision text fault (at_tag measurement tags tag_text front bad) = front.said
-said_by_fault precision text fault (no_fields measurement tags gap front ended left is) = front.said
-said_by_fault precision text fault (at_field measurement tags fields_text fields field_text h leading bad) =
-    h.front.said
-said_by_fault precision text fault (at_time measurement tags fields_text fields ending h are bad) = h.front.said
-said_by_fault precision text fault (long_key p h long is) = h.front.front.said
+parsed_by_fault precision text fault (no_measurement parsed none is) = parsed
+parsed_by_fault precision text fault (at_tag measurement tags tag_text prefix bad) = prefix.present
+parsed_by_fault precision text fault (no_fields measurement tags gap prefix ended left is) = prefix.present
+parsed_by_fault precision text fault (at_field measurement tags fields_text fields field_text h leading bad) =
+    h.prefix.present
+parsed_by_fault precision text fault (at_time measurement tags fields_text fields ending h are bad) = h.prefix.present
+parsed_by_fault precision text fault (long_key p h long is) = h.prefix.prefix.present
 
 nothing_agrees : (precision : Precision) (text : List ℕ) → is_nothing text ≡ true
     → Agrees {A = LineView} (Ok nothing) (IsTextOf precision text) (TextFault precision text)
@@ -360,36 +361,36 @@ nothing_agrees precision text e = record {
   holds = e;
   good = only;
   bad =
-      λ fault h. absurd (false≢true (sym (said_by_fault precision text fault h) ∙ e));
+      λ fault h. absurd (false≢true (sym (parsed_by_fault precision text fault h) ∙ e));
 }
   where
-    only : (said : LineView) → IsTextOf precision text said → just_read nothing ≡ Ok said
+    only : (parsed : LineView) → IsTextOf precision text parsed → just_read nothing ≡ Ok parsed
     only nothing h = refl
-    only (point p) h = absurd (false≢true (sym (said_by_parts precision text p h.0) ∙ e))
+    only (point p) h = absurd (false≢true (sym (parsed_by_parts precision text p h.0) ∙ e))
 
-point_of_text : (precision : Precision) (text : List ℕ) → is_nothing text ≡ false → (said : LineView)
-    → (p : PointView) × Steps precision text p × (point p ≡ said) → IsTextOf precision text said
-point_of_text precision text said view (p, steps, is) =
-    subst (IsTextOf precision text) is (point_to precision text said p steps)
+point_of_text : (precision : Precision) (text : List ℕ) → is_nothing text ≡ false → (parsed : LineView)
+    → (p : PointView) × Steps precision text p × (point p ≡ parsed) → IsTextOf precision text parsed
+point_of_text precision text parsed view (p, steps, is) =
+    subst (IsTextOf precision text) is (point_to precision text parsed p steps)
 
-text_point : (precision : Precision) (text : List ℕ) → is_nothing text ≡ false → (said : LineView)
-    → IsTextOf precision text said → (p : PointView) × Steps precision text p × (point p ≡ said)
-text_point precision text said nothing h = absurd (false≢true (sym said ∙ h))
-text_point precision text said (point p) h = (p, point_from precision text p h, refl)
+text_point : (precision : Precision) (text : List ℕ) → is_nothing text ≡ false → (parsed : LineView)
+    → IsTextOf precision text parsed → (p : PointView) × Steps precision text p × (point p ≡ parsed)
+text_point precision text parsed nothing h = absurd (false≢true (sym parsed ∙ h))
+text_point precision text parsed (point p) h = (p, point_from precision text p h, refl)
 
 stops_of : (precision : Precision) (text : List ℕ) → is_nothing text ≡ false → (fault : LineFault)
     → Stops precision text fault ⊎ ((p : PointView) × Steps precision text p × ⊥) → TextFault precision text fault
-stops_of precision text said fault (inl h) = fault_to precision text said fault h
-stops_of precision text said fault (inr h) = absurd h.2
+stops_of precision text parsed fault (inl h) = fault_to precision text parsed fault h
+stops_of precision text parsed fault (inr h) = absurd h.2
 
 pub text_agrees : (precision : Precision) (text : List ℕ)
     → Agrees (text_at precision text) (IsTextOf precision text) (TextFault precision text)
 text_agrees precision text =
     elim (cases_Bool (is_nothing text)) [
       | inl none ↦ rw none (nothing_agrees precision text none)
-      | inr said ↦ rw said (
-          Agrees-as (point_at precision text >>= λ p. Ok (point p)) _ _ _ _ (point_of_text precision text said)
-          (text_point precision text said) (stops_of precision text said)
+      | inr parsed ↦ rw parsed (
+          Agrees-as (point_at precision text >>= λ p. Ok (point p)) _ _ _ _ (point_of_text precision text parsed)
+          (text_point precision text parsed) (stops_of precision text parsed)
           (λ fault h. inl (fault_from precision text fault h))
           (Agrees-bind (point_at precision text) (λ p. Ok (point p)) (Steps precision text) (Stops precision text)
           (λ p view. point p ≡ view) (λ p fault. ⊥) (steps_agree precision text) (λ p is. Agrees-ok (point p))))

@@ -100,19 +100,19 @@ repeats_by_sort keys sorted false p h e =
       | inr once ↦ absurd (false≢true (sym (moved keys sorted p once) ∙ twice_unless_risen sorted h (sym e)))
     ]
 
--- one key more in front
+-- one key more in prefix
 pub one_key_more : {X : Type 0} (key_of : X → List ℕ) (keys : List Key) (entries : List X) (count i : ℕ) (item : X)
     (key : Key) → length keys ≡ MAX_FIELDS → length entries ≤ MAX_FIELDS → count ≡ i → i < length entries
     → item ≡ get_or entries i item → key.now ≡ key_of item
     → map (λ (key : Key). key.now) (take count keys) ≡ map key_of (take i entries)
     → map (λ (key : Key). key.now) (take (count + 1) (set keys count key)) ≡ map key_of (take (i + 1) entries)
-one_key_more key_of keys entries count i item key long few counted lt is key_is front =
+one_key_more key_of keys entries count i item key long few counted lt is key_is prefix =
     let view : Key → List ℕ = λ key. key.now in
     let room : count < length keys = omega (arith, long, few, counted, lt) in
     let n : count + 1 ≡ suc count = omega arith in
     ap (λ (k : ℕ). map view (take k (set keys count key))) n
     ∙ ap (map view) (take-suc-set keys count key room)
     ∙ map-append view (take count keys) (key ∷ [])
-    ∙ ap (λ (names : List (List ℕ)). names ++ key.now ∷ []) front
+    ∙ ap (λ (names : List (List ℕ)). names ++ key.now ∷ []) prefix
     ∙ ap (λ (name : List ℕ). map key_of (take i entries) ++ name ∷ []) (key_is ∙ ap key_of is)
     ∙ sym (map_more key_of entries i item lt)

@@ -73,17 +73,18 @@ ends_plainly class (b ∷ c ∷ name) byte rest special e =
 pub scanned : (class : Class) (text name rest : List ℕ) → IsName class text name rest
     → name_len class text ≡ length name
 scanned class text name rest h =
-    ap (name_len class) (h.whole ∙ ap (λ (front : List ℕ). front ++ rest) h.units)
+    ap (name_len class) (h.whole ∙ ap (λ (prefix : List ℕ). prefix ++ rest) h.units)
     ∙ name_len-escape class h.bytes rest h.ended ∙ ap length (sym h.units)
 
 -- what the scan of a name passed is units, and it ends where no unit follows
 pub is_name_scanned : (class : Class) (text name rest : List ℕ) → 0 < length name → name_len class text ≡ length name
     → text ≡ name ++ rest → IsName class text name rest
 is_name_scanned class text name rest some len whole =
-    let front : take (name_len class text) text ≡ name = ap (λ (n : ℕ). take n text) len ∙ ap (take (length name)) whole
+    let prefix : take (name_len class text) text ≡ name = ap (λ (n : ℕ). take n text) len
+        ∙ ap (take (length name)) whole
     ∙ take-append_seam name rest in
     let units : name ≡ escape class (unescape class name) =
-    sym (ap (λ (l : List ℕ). escape class (unescape class l)) (sym front) ∙ escape-unescape class text ∙ front) in
+    sym (ap (λ (l : List ℕ). escape class (unescape class l)) (sym prefix) ∙ escape-unescape class text ∙ prefix) in
     record {
       bytes = unescape class name;
       some = some;

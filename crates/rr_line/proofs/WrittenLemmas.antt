@@ -23,7 +23,7 @@ use Rattle.rr_key.proofs.EscapeLemmas.{both_true, unescape-escape}
 use Rattle.rr_key.proofs.KeyTextLemmas.{tail_of_series}
 use Rattle.rr_key.proofs.NameLemmas.{Divides, is_name-escape, name_ends}
 use Rattle.rr_key.proofs.OrderLemmas.{same_key, entries_rise, unique_if_rises}
-use Rattle.rr_point.specs.Front.{tags_unescaped, front_text}
+use Rattle.rr_point.specs.Prefix.{tags_unescaped, prefix_text}
 use Rattle.rr_line.specs.Grammar.{is_nothing, LeadsToFields}
 use Rattle.rr_line.specs.Part.{skip_spaces, IsName}
 use Rattle.rr_line.specs.Tag.{Tag, AreTags, has_key}
@@ -191,16 +191,16 @@ is_written key is =
     }
 
 -- the text before the field, and its separating space
-abbrev pub front_of : (key : List ℕ) → IsWritten key → List ℕ
-front_of key k = escape Measurement k.measurement ++ flat_map tag_text k.tags
+abbrev pub prefix_of : (key : List ℕ) → IsWritten key → List ℕ
+prefix_of key k = escape Measurement k.measurement ++ flat_map tag_text k.tags
 
-pub key_split : (key : List ℕ) (k : IsWritten key) → key ≡ front_of key k ++ SPACE ∷ escape Other k.field
+pub key_split : (key : List ℕ) (k : IsWritten key) → key ≡ prefix_of key k ++ SPACE ∷ escape Other k.field
 key_split key k = k.whole ∙ simp append_assoc
 
 -- key texts of a line with these names begin as the key text does
-pub front_kept : (key : List ℕ) (k : IsWritten key)
-    → front_text (escape Measurement k.measurement) (written k.tags) ≡ front_of key k
-front_kept key k =
+pub prefix_kept : (key : List ℕ) (k : IsWritten key)
+    → prefix_text (escape Measurement k.measurement) (written k.tags) ≡ prefix_of key k
+prefix_kept key k =
     let once = unique_if_rises k.tags k.tags (IsPermutation-refl k.tags) k.rising in
     let same : entries (from_entries {R = bytes_cmp} (tags_unescaped (written k.tags))) ≡ k.tags =
     ap (λ (ts : List Tag). entries (from_entries {R = bytes_cmp} ts)) (unwritten k.tags)
@@ -213,7 +213,7 @@ pub leads_to_field : (key text value_text : List ℕ) (k : IsWritten key) → is
     → text ≡ key ++ EQUALS ∷ value_text
     → LeadsToFields text (escape Measurement k.measurement) (written k.tags)
     (escape Other k.field ++ EQUALS ∷ value_text)
-leads_to_field key text value_text k said whole =
+leads_to_field key text value_text k parsed whole =
     let fields_text = escape Other k.field ++ EQUALS ∷ value_text in
     let tags_text = flat_map tag_text k.tags ++ SPACE ∷ fields_text in
     let field = name_written Other k.field (EQUALS ∷ value_text) k.field_named refl in
@@ -222,8 +222,8 @@ leads_to_field key text value_text k said whole =
     subst (λ (t : List ℕ). LeadsToFields t (escape Measurement k.measurement) (written k.tags) fields_text)
     (sym spelled) (record {
       gap = SPACE ∷ fields_text;
-      front = record {
-        said = ap is_nothing (sym spelled) ∙ said;
+      prefix = record {
+        present = ap is_nothing (sym spelled) ∙ parsed;
         tags_text = tags_text;
         name = name_written Measurement k.measurement tags_text k.named (divides_tags Measurement k.tags fields_text);
         are_tags = tags_written [] [] k.tags fields_text (λ next lt. refl) k.rising k.tags_named (omega (arith, k.few));

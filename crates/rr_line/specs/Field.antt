@@ -34,14 +34,14 @@ LeadTo before text (field ∷ fields) rest =
 
 -- text = { field "," } field rest, and the rest begins with no comma
 pub record AreFields (text : List ℕ) (fields : List Field) (rest : List ℕ) : Type 0 where
-  pub front : List Field
+  pub prefix : List Field
   pub last : Field
   pub last_text : List ℕ
-  pub leading : LeadTo [] text front last_text
+  pub leading : LeadTo [] text prefix last_text
   pub ends : IsField last_text last rest
-  pub new : MayComeAfter front last
+  pub new : MayComeAfter prefix last
   pub ended : begins COMMA rest ≡ false
-  pub all : fields ≡ front ++ last ∷ []
+  pub all : fields ≡ prefix ++ last ∷ []
 
 -- why no field is read after the fields before
 pub data FieldFault (before : List Field) (text : List ℕ) (fault : LineFault) : Type 0 where

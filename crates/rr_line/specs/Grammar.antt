@@ -23,7 +23,7 @@ is_nothing (byte ∷ rest) = byte == HASH
 
 -- text = measurement { "," tag } rest
 pub record LeadsToTags (text measurement : List ℕ) (tags : List Tag) (rest : List ℕ) : Type 0 where
-  pub said : is_nothing text ≡ false
+  pub present : is_nothing text ≡ false
   pub tags_text : List ℕ
   pub name : IsName Measurement text measurement tags_text
   pub are_tags : AreTags [] tags_text tags rest
@@ -31,7 +31,7 @@ pub record LeadsToTags (text measurement : List ℕ) (tags : List Tag) (rest : L
 -- text = measurement { "," tag } spaces fields_text
 pub record LeadsToFields (text measurement : List ℕ) (tags : List Tag) (fields_text : List ℕ) : Type 0 where
   pub gap : List ℕ
-  pub front : LeadsToTags text measurement tags gap
+  pub prefix : LeadsToTags text measurement tags gap
   pub ended : begins COMMA gap ≡ false
   pub skipped : skip_spaces gap ≡ fields_text
   pub some : 0 < length fields_text
@@ -40,7 +40,7 @@ pub record LeadsToFields (text measurement : List ℕ) (tags : List Tag) (fields
 pub record HasParts (precision : Precision) (text : List ℕ) (p : PointView) : Type 0 where
   pub fields_text : List ℕ
   pub ending : List ℕ
-  pub front : LeadsToFields text p.measurement p.tags fields_text
+  pub prefix : LeadsToFields text p.measurement p.tags fields_text
   pub are_fields : AreFields fields_text p.fields ending
   pub is_ending : IsEnding precision ending p.time
 

@@ -1,4 +1,4 @@
--- The digits at the front of a text.
+-- The digits at the beginning of a text.
 use Rattle.std.specs.Prelude.{◌≡◌, ℕ, true, List, ◌∷◌, ◌++◌, Some}
 use Rattle.std.specs.Char.{is_ascii_digit, digit_value}
 use Rattle.rr_text.specs.Text.{number_at}

@@ -6,5 +6,5 @@ use Rattle.rr_line.specs.Beginning.{BeginsWith}
 
 -- these samples of a line are read
 pub record HasRead (line : List ℕ) (samples : List Sample) (known : KnownLine) : Type 0 where
-  pub begins : BeginsWith line samples known.front.now known.field.now known.rest.now
+  pub begins : BeginsWith line samples known.prefix.now known.field.now known.rest.now
   pub count : length samples ≡ known.count

@@ -1,4 +1,4 @@
-pub mod Front
+pub mod Prefix
 pub mod Line
 pub mod Part
 pub mod Tag

@@ -6,7 +6,7 @@ use Rattle.rr_key.specs.Name.{MayFollow}
 use Rattle.rr_key.specs.Unit.{escape}
 use Rattle.rr_text.specs.declared.bytes.TheConstants.{RETURN, SPACE}
 
--- a text without the spaces at its front
+-- a text without the spaces at its beginning
 abbrev pub skip_spaces : List ℕ → List ℕ
 skip_spaces [] = []
 skip_spaces (byte ∷ rest) = if byte == SPACE then skip_spaces rest else byte ∷ rest
@@ -15,13 +15,13 @@ skip_spaces (byte ∷ rest) = if byte == SPACE then skip_spaces rest else byte �
 abbrev pub before_last : ℕ → List ℕ → Option (List ℕ)
 before_last byte [] = None
 before_last byte (last ∷ []) = if last == byte then Some [] else None
-before_last byte (first ∷ next ∷ rest) = option_map (λ front. first ∷ front) (before_last byte (next ∷ rest))
+before_last byte (first ∷ next ∷ rest) = option_map (λ prefix. first ∷ prefix) (before_last byte (next ∷ rest))
 
--- a line without the carriage return at its end and the spaces at its front
+-- a line without the carriage return at its end and the spaces at its beginning
 abbrev pub content : List ℕ → List ℕ
 content line = skip_spaces (unwrap_or (before_last RETURN line) line)
 
--- the front of this length, and what follows it
+-- the prefix of this length, and what follows it
 abbrev pub cut_after : ℕ → List ℕ → List ℕ × List ℕ
 cut_after len text = (take len text, drop len text)
 
@@ -39,11 +39,11 @@ pub record IsName (class : Class) (text name rest : List ℕ) : Type 0 where
   pub ended : MayFollow class bytes rest
   pub whole : text ≡ name ++ rest
 
--- no name is at the front: the text is empty, or begins with a special byte
+-- no name is at the beginning: the text is empty, or begins with a special byte
 abbrev pub HasNoName : Class → List ℕ → Type 0
 HasNoName class text = Ends (is_special class) text
 
--- a number of bytes at the front of a text, as a definition has it
-pub record IsFrontLen (len : ℕ) (text : List ℕ) (result : ℕ) : Type 0 where
+-- a number of bytes at the beginning of a text, as a definition has it
+pub record IsPrefixLen (len : ℕ) (text : List ℕ) (result : ℕ) : Type 0 where
   pub value : result ≡ len
   pub within : result ≤ length text

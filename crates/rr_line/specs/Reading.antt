@@ -23,7 +23,7 @@ use Rattle.rr_line.specs.Tag.{Tag, has_key}
 use Rattle.rr_line.specs.Time.{word_len, nanoseconds}
 use Rattle.rr_line.specs.Value.{value_of, value_len, quoted_fault}
 
--- the name at the front, and what follows it
+-- the name at the beginning, and what follows it
 abbrev pub name_at : Class → LineFault → List ℕ → Result (List ℕ × List ℕ) LineFault
 name_at class missing text =
     unless missing (name_len class text == 0) (Ok (cut_after (name_len class text) text))
@@ -93,7 +93,7 @@ abbrev pub word_time : Precision → List ℕ → List ℕ → Result ℤ LineFa
 word_time precision word rest =
     unless BadTime (not (is_digits (unsigned word)) || not (length (skip_spaces rest) == 0)) (time_at precision word)
 
--- the time of an ending without the spaces at its front, if it has one
+-- the time of an ending without the spaces at its beginning, if it has one
 abbrev pub ending_at : Precision → List ℕ → Result (Option ℤ) LineFault
 ending_at precision text =
     if length text == 0 then Ok None
@@ -102,11 +102,11 @@ ending_at precision text =
 -- the fields and the time after this many bytes, unless a key text, which is that long, a space and the field's key, is
 -- too long
 unfoldable pub body_at : Precision → ℕ → List ℕ → Result (List Field × Option ℤ) LineFault
-body_at precision front gap = do
+body_at precision prefix gap = do
   fields_text ← fields_text_of gap
   fields ← all_fields_at fields_text
   time ← ending_at precision (skip_spaces fields.1)
-  unless KeyTooLong (list_any (λ field. nat_lt MAX_KEY_TEXT (front + 1 + length field.0)) fields.0)
+  unless KeyTooLong (list_any (λ field. nat_lt MAX_KEY_TEXT (prefix + 1 + length field.0)) fields.0)
       (Ok (fields.0, time))
 
 -- a point, unless a key of it is too long

@@ -36,7 +36,7 @@ AreTags before text (tag ∷ tags) rest =
     (tag_text next : List ℕ) × (text ≡ COMMA ∷ tag_text) × IsTag tag_text tag next × MayComeAfter before tag
     × AreTags (before ++ tag ∷ []) next tags rest
 
--- a key is at the front, and no value follows it
+-- a key is at the beginning, and no value follows it
 pub data HasNoTagValue (text : List ℕ) : Type 0 where
   without_equals : (key rest : List ℕ) → IsName Other text key rest → begins EQUALS rest ≡ false → HasNoTagValue text
   without_name : (key value_text : List ℕ) → IsName Other text key (EQUALS ∷ value_text) → HasNoName Other value_text

@@ -18,7 +18,7 @@ use rr_text::bytes::{COMMA, EQUALS, strip};
 use rr_text::limits::MAX_FIELDS;
 use std::alloc::{AllocError, Global};
 
-/// The fields at the front, and what follows them.
+/// The fields at the beginning, and what follows them.
 pub(crate) fn read_fields<'a>(
     alloc: Global,
     text: &'a [u8],
@@ -34,7 +34,8 @@ pub(crate) fn read_fields<'a>(
     Ok((fields, rest))
 }
 
-/// The fields at the front, up to the first that is refused, and what follows them or why it is.
+/// The fields at the beginning, up to the first that is refused, and what follows them or why it
+/// is.
 fn gather_fields<'a>(
     alloc: Global,
     text: &'a [u8],

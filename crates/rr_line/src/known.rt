@@ -31,8 +31,8 @@ pub fn read_known(
     precision: Precision,
     last: &mut LastTime,
 ) -> Option<(i64, Option<i64>)>
-    ensures { IfSome result (λ said.
-        SaysSamples precision line.now ((key.now, said.0) ∷ []) said.1) }
+    ensures { IfSome result (λ parsed.
+        SaysSamples precision line.now ((key.now, parsed.0) ∷ []) parsed.1) }
 {
     let (value, rest) = first_value(line, key.text())?;
     let time = time_after(rest, precision, last)?;
@@ -51,15 +51,15 @@ pub(crate) fn first_value<'a>(line: &'a [u8], key: &[u8]) -> Option<(i64, &'a [u
     read_integer(value_text)
 }
 
-/// What follows a key and an equals at the front.
+/// What follows a key and an equals at the beginning.
 pub(crate) fn after_key<'a>(text: &'a [u8], key: &[u8]) -> Option<&'a [u8]>
     ensures { IfSome result (λ rest. text.now ≡ key.now ++ EQUALS ∷ rest.now) }
 {
     if text.len() < key.len() {
         return None;
     }
-    let (front, rest) = text.split_at(key.len());
-    if front == key {
+    let (prefix, rest) = text.split_at(key.len());
+    if prefix == key {
         strip(EQUALS, rest)
     } else {
         None

@@ -31,7 +31,7 @@ use rr_text::limits::MAX_FIELDS;
 #[derive(Clone, Copy, Debug)]
 pub struct KnownLine<'l, 'k> {
     /// What precedes the field in each key text.
-    front: &'k [u8],
+    prefix: &'k [u8],
     /// The key of the field that was read last.
     field: &'k [u8],
     /// What follows its value.
@@ -48,10 +48,10 @@ impl<'l, 'k> KnownLine<'l, 'k> {
         ensures { IfSome result (λ read. HasRead line.now ((key.now, read.0) ∷ []) read.1) }
     {
         let key_text = key.text();
-        let (front, field) = split_key(key_text)?;
+        let (prefix, field) = split_key(key_text)?;
         let (value, rest) = first_value(line, key_text)?;
         let known = KnownLine {
-            front,
+            prefix,
             field,
             rest,
             count: 1,
@@ -66,14 +66,14 @@ impl<'l, 'k> KnownLine<'l, 'k> {
             → IfSome result (λ read. HasRead line (samples ++ (key.now, read.0) ∷ []) read.1) }
     {
         let text = strip(COMMA, self.rest)?;
-        let (front, field) = split_key(key.text())?;
-        if !self.may_precede(front, field) {
+        let (prefix, field) = split_key(key.text())?;
+        if !self.may_precede(prefix, field) {
             return None;
         }
         let value_text = after_key(text, field)?;
         let (value, rest) = read_integer(value_text)?;
         let known = KnownLine {
-            front,
+            prefix,
             field,
             rest,
             count: self.count + 1,
@@ -89,13 +89,13 @@ impl<'l, 'k> KnownLine<'l, 'k> {
         time_after(self.rest, precision, last)
     }
 
-    /// Whether a field of this front and this key may come after those that were read.
-    fn may_precede(&self, front: &[u8], field: &[u8]) -> bool
+    /// Whether a field of this prefix and this key may come after those that were read.
+    fn may_precede(&self, prefix: &[u8], field: &[u8]) -> bool
         ensures fields_fit { OnTrue result (self.now.count < MAX_FIELDS) }
-        ensures same { OnTrue result (front.now ≡ self.now.front.now) }
+        ensures same { OnTrue result (prefix.now ≡ self.now.prefix.now) }
         ensures above { OnTrue result (is_lt (bytes_cmp self.now.field.now field.now) ≡ true) }
     {
-        self.count < MAX_FIELDS && front == self.front && self.field.cmp(field).is_lt()
+        self.count < MAX_FIELDS && prefix == self.prefix && self.field.cmp(field).is_lt()
     }
 }
 
@@ -104,10 +104,10 @@ fn split_key(key: &[u8]) -> Option<(&[u8], &[u8])>
     ensures { IfSome result (λ parts. IsCut key.now parts.0.now parts.1.now) }
 {
     let at = memrchr(SPACE, key)?;
-    let (front, rest) = key.split_at(at);
-    if before_last(BACKSLASH, front).is_some() {
+    let (prefix, rest) = key.split_at(at);
+    if before_last(BACKSLASH, prefix).is_some() {
         return None;
     }
     let field = strip(SPACE, rest)?;
-    Some((front, field))
+    Some((prefix, field))
 }

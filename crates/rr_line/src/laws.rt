@@ -15,16 +15,16 @@ ghost use Rattle.rr_line.specs.Reading.{reading};
 /// has one fault. Running out of memory is not one of them.
 pub fn a_line_is_one_of_three()
     ensures one { (precision : Precision) (line : List ℕ)
-        → (said : Result LineView LineFault) × IsLineOf precision line said
-        × ((other : Result LineView LineFault) → IsLineOf precision line other → other ≡ said) }
+        → (parsed : Result LineView LineFault) × IsLineOf precision line parsed
+        × ((other : Result LineView LineFault) → IsLineOf precision line other → other ≡ parsed) }
     ensures takes_no_memory { (precision : Precision) (line : List ℕ) (fault : LineFault)
         → HasFault precision line fault → fault ≢ Memory }
 {}
 
 /// The reading and the grammar are one.
 pub fn reading_is_the_grammar()
-    ensures { (precision : Precision) (line : List ℕ) (said : Result LineView LineFault)
-        → (reading precision line ≡ said) ↔ IsLineOf precision line said }
+    ensures { (precision : Precision) (line : List ℕ) (parsed : Result LineView LineFault)
+        → (reading precision line ≡ parsed) ↔ IsLineOf precision line parsed }
 {}
 
 /// Each field of a point has a key: its names are names of a key, its tags differ and are few, and

@@ -36,7 +36,6 @@
 
 mod fault;
 mod fields;
-mod front;
 mod integer;
 mod known;
 mod known_line;
@@ -47,6 +46,7 @@ mod mark;
 mod parse;
 mod part;
 mod precision;
+mod prefix;
 mod repeat;
 mod tags;
 mod time;

@@ -16,10 +16,10 @@ ghost use Rattle.rr_line.specs.declared.fault.LineFault.TheVariants.{NoMeasureme
 
 use crate::fault::LineFault;
 use crate::fields::read_fields;
-use crate::front::key_front;
 use crate::line::Line;
 use crate::part::{content, read_name, skip_spaces};
 use crate::precision::Precision;
+use crate::prefix::key_prefix;
 use crate::tags::read_tags;
 use crate::time::read_ending;
 use rr_key::Class;
@@ -50,8 +50,8 @@ pub fn parse_line<'a>(
 
     // What is answered is of the grammar, and what is of the grammar is answered.
     ensures found { AnswersUnless LineFault.Memory line_view result (IsLineOf precision line.now) }
-    ensures only { (said : Result LineView LineFault) → IsLineOf precision line.now said
-        → GivesUnless LineFault.Memory line_view result said }
+    ensures only { (parsed : Result LineView LineFault) → IsLineOf precision line.now parsed
+        → GivesUnless LineFault.Memory line_view result parsed }
 
     // Memory is taken only for a line that says something and begins with a measurement.
     ensures nothing { is_nothing (content line.now) ≡ true → IsOk result }
@@ -59,8 +59,8 @@ pub fn parse_line<'a>(
         (name_at Measurement NoMeasurement (content line.now)) result }
 
     // Each field of a point has a key, and they are few.
-    ensures keyed { IfOk result (λ said. LineHasKeys (line_view said)) }
-    ensures fields_fit { IfOk result (λ said. LineHasFewFields (line_view said)) }
+    ensures keyed { IfOk result (λ parsed. LineHasKeys (line_view parsed)) }
+    ensures fields_fit { IfOk result (λ parsed. LineHasFewFields (line_view parsed)) }
 {
     let text = content(line);
     if is_nothing(text) {
@@ -95,27 +95,27 @@ fn read_point<'a>(
 {
     let (measurement, rest) = read_name(Class::Measurement, LineFault::NoMeasurement, text)?;
     let (tags, gap) = read_tags(alloc, rest)?;
-    let front = &text[..text.len() - gap.len()];
-    let (fields, time) = read_body(alloc, front, gap, precision)?;
-    let front = key_front(front, tags.as_slice());
-    Ok(Point::new(measurement, tags, fields, time, front))
+    let prefix = &text[..text.len() - gap.len()];
+    let (fields, time) = read_body(alloc, prefix, gap, precision)?;
+    let prefix = key_prefix(prefix, tags.as_slice());
+    Ok(Point::new(measurement, tags, fields, time, prefix))
 }
 
 /// The fields after what precedes them, and the time.
 #[tactic(auto, unfolding(crate::specs::Reading::body_at))]
 fn read_body<'a>(
     alloc: Global,
-    front: &[u8],
+    prefix: &[u8],
     gap: &'a [u8],
     precision: Precision,
 ) -> Result<(Vec<Field<'a>>, Option<i64>), LineFault>
     ensures { GivesUnless LineFault.Memory (λ body. (fields_view body.0.items, body.1))
-        result (body_at precision (length front.now) gap.now) }
+        result (body_at precision (length prefix.now) gap.now) }
 {
     let text = skip_gap(gap)?;
     let (fields, ending) = read_fields(alloc, text)?;
     let time = read_ending(precision, ending)?;
-    if has_long_key(front, &fields) {
+    if has_long_key(prefix, &fields) {
         return Err(LineFault::KeyTooLong);
     }
     Ok((fields, time))
@@ -134,13 +134,13 @@ fn skip_gap(gap: &[u8]) -> Result<&[u8], LineFault>
 
 /// Whether a key text is too long: it is as long as what precedes the fields in the line, a space
 /// and the field's key.
-fn has_long_key(front: &[u8], fields: &[Field<'_>]) -> bool
+fn has_long_key(prefix: &[u8], fields: &[Field<'_>]) -> bool
     ensures { result ≡ list_any
-        (λ field. nat_lt MAX_KEY_TEXT (length front.now + 1 + length field.0))
+        (λ field. nat_lt MAX_KEY_TEXT (length prefix.now + 1 + length field.0))
         (fields_view fields.now) }
 {
     for field in fields {
-        if front.len() + 1 + field.key.len() > MAX_KEY_TEXT {
+        if prefix.len() + 1 + field.key.len() > MAX_KEY_TEXT {
             return true;
         }
     }

@@ -1,4 +1,4 @@
-//! The parts of a line: what is at the front of a text, and what follows it.
+//! The parts of a line: what is at the beginning of a text, and what follows it.
 
 ghost use Rattle.std.specs.Prelude.{◌≡◌, ◌≤◌, length, option_map};
 ghost use Rattle.rr_text.specs.Bytes.{strip, begins};
@@ -10,7 +10,7 @@ use crate::fault::LineFault;
 use rr_key::{Class, name_len};
 use rr_text::bytes::{RETURN, SPACE};
 
-/// The text without the spaces at its front.
+/// The text without the spaces at its beginning.
 pub(crate) fn skip_spaces(text: &[u8]) -> &[u8]
     ensures { result.now ≡ skip_spaces text.now }
 {
@@ -23,25 +23,25 @@ pub(crate) fn skip_spaces(text: &[u8]) -> &[u8]
 
 /// The text before a byte that ends it.
 pub(crate) fn before_last(byte: u8, text: &[u8]) -> Option<&[u8]>
-    ensures { option_map (λ front. front.now) result ≡ before_last byte text.now }
+    ensures { option_map (λ prefix. prefix.now) result ≡ before_last byte text.now }
 {
     match text {
-        [front @ .., last] => { if *last == byte { Some(front) } else { None } }
+        [prefix @ .., last] => { if *last == byte { Some(prefix) } else { None } }
         [] => None,
     }
 }
 
-/// A line without the carriage return at its end and the spaces at its front.
+/// A line without the carriage return at its end and the spaces at its beginning.
 pub(crate) fn content(line: &[u8]) -> &[u8]
     ensures { result.now ≡ content line.now }
 {
     match before_last(RETURN, line) {
-        Some(front) => skip_spaces(front),
+        Some(prefix) => skip_spaces(prefix),
         None => skip_spaces(line),
     }
 }
 
-/// The name at the front, and what follows it; where there is none, the line is refused.
+/// The name at the beginning, and what follows it; where there is none, the line is refused.
 pub(crate) fn read_name(
     class: Class,
     missing: LineFault,

@@ -1,7 +1,7 @@
 //! The time of a line, and its end.
 
 ghost use Rattle.std.specs.Prelude.{◌≡◌};
-ghost use Rattle.rr_line.specs.Part.{IsFrontLen, skip_spaces};
+ghost use Rattle.rr_line.specs.Part.{IsPrefixLen, skip_spaces};
 ghost use Rattle.rr_line.specs.Reading.{word_time, ending_at};
 ghost use Rattle.rr_line.specs.Time.{time_of, word_len};
 
@@ -27,7 +27,7 @@ pub(crate) fn read_ending(precision: Precision, ending: &[u8]) -> Result<Option<
 
 /// How many bytes precede the first space, or how many there are.
 fn word_len(text: &[u8]) -> usize
-    ensures { IsFrontLen (word_len text.now) text.now result }
+    ensures { IsPrefixLen (word_len text.now) text.now result }
 {
     match memchr(SPACE, text) {
         Some(at) => at,

@@ -3,7 +3,7 @@
 ghost use Rattle.std.specs.Prelude.{◌≡◌, ◌≤◌, ◌++◌, length, option_map};
 ghost use Rattle.rr_text.specs.Results.{Gives};
 ghost use Rattle.rr_text.specs.Text.{is_digits};
-ghost use Rattle.rr_line.specs.Part.{IsFrontLen};
+ghost use Rattle.rr_line.specs.Part.{IsPrefixLen};
 ghost use Rattle.rr_line.specs.Reading.{value_at};
 ghost use Rattle.rr_line.specs.Value.{is_boolean, is_one_of, trues, falses, is_integer, is_unsigned, is_float, is_mantissa, is_exponent, mantissa_len, kind_fault, value_of, value_len, after_quote, after_unit, is_text, quoted_fault, without_sign};
 
@@ -30,7 +30,7 @@ pub(crate) fn read_value(text: &[u8]) -> Result<(i64, &[u8]), LineFault>
 
 /// How many bytes precede the first comma or space, or how many there are.
 fn value_len(text: &[u8]) -> usize
-    ensures { IsFrontLen (value_len text.now) text.now result }
+    ensures { IsPrefixLen (value_len text.now) text.now result }
 {
     match memchr2(COMMA, SPACE, text) {
         Some(at) => at,
@@ -116,7 +116,7 @@ fn is_float(text: &[u8]) -> bool
 
 /// How many bytes precede the mark of an exponent, or how many there are.
 fn mantissa_len(text: &[u8]) -> usize
-    ensures { IsFrontLen (mantissa_len text.now) text.now result }
+    ensures { IsPrefixLen (mantissa_len text.now) text.now result }
 {
     match memchr2(EXPONENT_MARK, GREAT_EXPONENT_MARK, text) {
         Some(at) => at,

@@ -86,7 +86,7 @@ pub record Counts (old new : Connection) (k now : KeeperState) (item : Item) (as
   pub few : length asked ≡ moments_asked old.rules item
   pub keeper : now ≡ published_after (old.lines + 1)
       (keeper_with k (verdict_of old.rules (first_of asked) (own_replica k) item))
-  pub told : IsAnswer (verdict_of old.rules (first_of asked) (own_replica k) item) answer
+  pub reported : IsAnswer (verdict_of old.rules (first_of asked) (own_replica k) item) answer
   pub lines : new.lines ≡ old.lines + 1
   pub report : new.report ≡ counted_in old.report answer
   pub rules : new.rules ≡ old.rules
@@ -103,19 +103,19 @@ HasServed-item old new start k now pushed text given asked item answer counts ha
       asked = rw counts.rules (asked_more old.rules has.handed item given asked has.asked counts.few);
       served = λ later.
           let s : Served = served_so_far old k text later in
-          let front : after old.rules start ((given ++ asked) ++ later) has.handed
+          let prefix : after old.rules start ((given ++ asked) ++ later) has.handed
           ≡ served_so_far old k text (asked ++ later) =
           ap (λ (m : List ℤ). after old.rules start m has.handed) (append_assoc given asked later)
           ∙ has.served (asked ++ later) in
           let whole : after old.rules start ((given ++ asked) ++ later) (has.handed ++ item ∷ [])
           ≡ with_verdict s v later =
           fold-append (with_item old.rules) (served_at_start start ((given ++ asked) ++ later)) has.handed (item ∷ [])
-          ∙ ap (λ (x : Served). with_item old.rules x item) front
+          ∙ ap (λ (x : Served). with_item old.rules x item) prefix
           ∙ item_served old.rules k old.lines text old.report item asked later (asks_clock old.rules item) refl
           counts.few in
           let keeper = counts.keeper in
-          let answered = text_of_answer (old.lines + 1) v answer counts.told in
-          let reported = report_of_answer old.report v answer counts.told in
+          let answered = text_of_answer (old.lines + 1) v answer counts.reported in
+          let reported = report_of_answer old.report v answer counts.reported in
           rw (counts.rules, counts.lines, counts.report, counts.keeper, answered, reported) whole;
     }
 
@@ -123,13 +123,13 @@ pub ServedItems-item : (start old new : Connection) (k0 k now : KeeperState) (gi
     (item : Item) (answer : Answer) → Counts old new k now item asked answer → ServedItems start old k0 k given text
     → ServedItems start new k0 now (given ++ asked) (text ++ text_to (old.lines + 1) answer)
 ServedItems-item start old new k0 k now given asked text item answer counts so_far = record {
-  served = λ first pushed before said has.
-      let more = HasServed-item old new first k now pushed (said ++ text) (before ++ given) asked item answer counts
-      (so_far.served first pushed before said has) in
-      subst (λ (m : List ℤ). HasServed new first pushed m now (said ++ (text ++ text_to (old.lines + 1) answer)))
+  served = λ first pushed before parsed has.
+      let more = HasServed-item old new first k now pushed (parsed ++ text) (before ++ given) asked item answer counts
+      (so_far.served first pushed before parsed has) in
+      subst (λ (m : List ℤ). HasServed new first pushed m now (parsed ++ (text ++ text_to (old.lines + 1) answer)))
       (append_assoc before given asked)
       (subst (HasServed new first pushed ((before ++ given) ++ asked) now)
-      (append_assoc said text (text_to (old.lines + 1) answer)) more);
+      (append_assoc parsed text (text_to (old.lines + 1) answer)) more);
   ended = counts.hands.ended ∙ so_far.ended;
   pieces = counts.pieces ∙ so_far.pieces;
   rules = counts.rules ∙ so_far.rules;
@@ -155,8 +155,8 @@ pub ServedItems-none : (first old new : Connection) (k0 k : KeeperState) (given 
     → HandsOut old.feed None new.feed → SameButFeed old new → new.pieces ≡ old.pieces
     → ServedItems first old k0 k given text → ServedItems first new k0 k given text
 ServedItems-none first old new k0 k given text hands same pieces so_far = record {
-  served = λ start pushed said before has.
-      let now = so_far.served start pushed said before has in
+  served = λ start pushed parsed before has.
+      let now = so_far.served start pushed parsed before has in
       record {
         handed = now.handed;
         fed = subst (λ (l : List Item). IsFed pushed l new.feed) (append-nil now.handed)
@@ -202,10 +202,10 @@ HasServed-end old new start k pushed text given ended same has = record {
 
 -- ---- where it ends
 
--- what was handed out is a front of the items, whatever comes
-handed_front : (feed : FeedState) (pushed bytes : List ℕ) (handed : List Item) → IsFed pushed handed feed
+-- what was handed out is a prefix of the items, whatever comes
+handed_prefix : (feed : FeedState) (pushed bytes : List ℕ) (handed : List Item) → IsFed pushed handed feed
     → ComesAfter feed pushed bytes → (rest : List Item) × (items true bytes ≡ handed ++ rest)
-handed_front feed pushed bytes handed fed comes =
+handed_prefix feed pushed bytes handed fed comes =
     (items_left (with_more feed comes.0 true), ap (items true) comes.1 ∙ fed comes.0 true comes.2)
 
 -- after all that was handed out
@@ -216,8 +216,8 @@ ends_here c start k pushed text given has = record {
   last = [];
   count = 0;
   input = λ bytes comes.
-      let front = handed_front c.feed pushed bytes has.handed has.fed comes in
-      (front.0, ap (λ (l : List Item). l ++ front.0) (append-nil has.handed) ∙ sym front.1);
+      let prefix = handed_prefix c.feed pushed bytes has.handed has.fed comes in
+      (prefix.0, ap (λ (l : List Item). l ++ prefix.0) (append-nil has.handed) ∙ sym prefix.1);
   asked = has.asked ∙ ap (count_by (asks_clock c.rules)) (sym (append-nil has.handed));
   keeper = inl (sym (ap (λ (s : Served). s.keeper)
       (subst (λ (m : List ℤ). after c.rules start m has.handed ≡ served_so_far c k text []) (append-nil given)
@@ -237,9 +237,9 @@ ends_within old new start k now pushed text given asked item count hands few is 
   count = count;
   input = λ bytes comes.
       let fed = IsFed-next_line pushed has.handed (Some item) old.feed new hands has.fed in
-      let front = handed_front new pushed bytes (has.handed ++ item ∷ []) fed
+      let prefix = handed_prefix new pushed bytes (has.handed ++ item ∷ []) fed
       (comes.0, comes.1, λ e. comes.2 (sym hands.ended ∙ e)) in
-      (front.0, sym front.1);
+      (prefix.0, sym prefix.1);
   asked = asked_more old.rules has.handed item given asked has.asked few;
   keeper = inl (is ∙ sym (ap (λ (s : Served). keeper_within old.rules s (item ∷ []) count)
       (subst (λ (m : List ℤ). after old.rules start (given ++ m) has.handed ≡ served_so_far old k text asked)
@@ -274,15 +274,15 @@ comes_too old new pushed bytes same comes = (comes.0, comes.1, λ e. comes.2 (sy
 -- memory ran out before an item was taken, after others were served
 pub StoppedByMemory-before : (first old : Connection) (k0 k now : KeeperState) (given asked : List ℤ) (text : List ℕ)
     → ServedItems first old k0 k given text → asked ≡ [] → now ≡ k → StoppedByMemory first k0 now (given ++ asked)
-StoppedByMemory-before first old k0 k now given asked text so_far none same start pushed said before has =
-    let here = ends_here old start k pushed (before ++ text) (said ++ given)
-    (so_far.served start pushed said before has) in
-    let moments : said ++ given ≡ said ++ (given ++ asked) =
-    ap (λ (m : List ℤ). said ++ m) (sym (append-nil given) ∙ ap (λ (m : List ℤ). given ++ m) (sym none)) in
+StoppedByMemory-before first old k0 k now given asked text so_far none same start pushed parsed before has =
+    let here = ends_here old start k pushed (before ++ text) (parsed ++ given)
+    (so_far.served start pushed parsed before has) in
+    let moments : parsed ++ given ≡ parsed ++ (given ++ asked) =
+    ap (λ (m : List ℤ). parsed ++ m) (sym (append-nil given) ∙ ap (λ (m : List ℤ). given ++ m) (sym none)) in
     subst (λ (x : KeeperState). EndsWithin first.rules start x (ComesAfter first.feed pushed)
-    (said ++ (given ++ asked))) (sym same)
-    (ends_of old.rules first.rules start k (ComesAfter old.feed pushed) (ComesAfter first.feed pushed) (said ++ given)
-    (said ++ (given ++ asked)) so_far.rules moments
+    (parsed ++ (given ++ asked))) (sym same)
+    (ends_of old.rules first.rules start k (ComesAfter old.feed pushed) (ComesAfter first.feed pushed) (parsed ++ given)
+    (parsed ++ (given ++ asked)) so_far.rules moments
     (λ bytes. comes_too first.feed old.feed pushed bytes so_far.ended) here)
 
 -- memory ran out once some of an item's operations were pending
@@ -291,12 +291,12 @@ pub StoppedByMemory-within : (first old : Connection) (new : FeedState) (k0 k no
     → HandsOut old.feed (Some item) new → length asked ≡ moments_asked old.rules item
     → now ≡ keeper_with_some k (verdict_of old.rules (first_of asked) (own_replica k) item) count
     → StoppedByMemory first k0 now (given ++ asked)
-StoppedByMemory-within first old new k0 k now given asked text item count so_far hands few is start pushed said before
+StoppedByMemory-within first old new k0 k now given asked text item count so_far hands few is start pushed parsed before
     has =
-    let here = ends_within old new start k now pushed (before ++ text) (said ++ given) asked item count hands few is
-    (so_far.served start pushed said before has) in
+    let here = ends_within old new start k now pushed (before ++ text) (parsed ++ given) asked item count hands few is
+    (so_far.served start pushed parsed before has) in
     ends_of old.rules first.rules start now (ComesAfter old.feed pushed) (ComesAfter first.feed pushed)
-    ((said ++ given) ++ asked) (said ++ (given ++ asked)) so_far.rules (append_assoc said given asked)
+    ((parsed ++ given) ++ asked) (parsed ++ (given ++ asked)) so_far.rules (append_assoc parsed given asked)
     (λ bytes. comes_too first.feed old.feed pushed bytes so_far.ended) here
 
 -- or all of them
@@ -342,32 +342,32 @@ answers_grow rules s (item ∷ later) =
     (here ++ more.0, more.1 ∙ append_assoc s.answers here more.0)
 
 -- the whole answer begins with what is answered so far
-pub answer_front : (c : Connection) (start k : KeeperState) (pushed text : List ℕ) (given later : List ℤ)
+pub answer_prefix : (c : Connection) (start k : KeeperState) (pushed text : List ℕ) (given later : List ℤ)
     (bytes : List ℕ) → HasServed c start pushed given k text → ComesAfter c.feed pushed bytes
     → (rest : List ℕ) × (answer_of (after c.rules start (given ++ later) (items true bytes)) ≡ text ++ rest)
-answer_front c start k pushed text given later bytes has comes =
-    let front = handed_front c.feed pushed bytes has.handed has.fed comes in
+answer_prefix c start k pushed text given later bytes has comes =
+    let prefix = handed_prefix c.feed pushed bytes has.handed has.fed comes in
     let s = served_so_far c k text later in
-    let all : after c.rules start (given ++ later) (items true bytes) ≡ fold (with_item c.rules) s front.0 =
-    ap (after c.rules start (given ++ later)) front.1
-    ∙ fold-append (with_item c.rules) (served_at_start start (given ++ later)) has.handed front.0
-    ∙ ap (λ (x : Served). fold (with_item c.rules) x front.0) (has.served later) in
-    let more = answers_grow c.rules s front.0 in
-    let report = report_text (fold (with_item c.rules) s front.0).report in
+    let all : after c.rules start (given ++ later) (items true bytes) ≡ fold (with_item c.rules) s prefix.0 =
+    ap (after c.rules start (given ++ later)) prefix.1
+    ∙ fold-append (with_item c.rules) (served_at_start start (given ++ later)) has.handed prefix.0
+    ∙ ap (λ (x : Served). fold (with_item c.rules) x prefix.0) (has.served later) in
+    let more = answers_grow c.rules s prefix.0 in
+    let report = report_text (fold (with_item c.rules) s prefix.0).report in
     (more.0 ++ report, ap answer_of all ∙ ap (λ (t : List ℕ). t ++ report) more.1 ∙ append_assoc text more.0 report)
 
 -- so do the answers to all lines, before the report
-pub answers_front : (c : Connection) (start k : KeeperState) (pushed text : List ℕ) (given later : List ℤ)
+pub answers_prefix : (c : Connection) (start k : KeeperState) (pushed text : List ℕ) (given later : List ℤ)
     (bytes : List ℕ) → HasServed c start pushed given k text → ComesAfter c.feed pushed bytes
     → (rest : List ℕ) × ((after c.rules start (given ++ later) (items true bytes)).answers ≡ text ++ rest)
-answers_front c start k pushed text given later bytes has comes =
-    let front = handed_front c.feed pushed bytes has.handed has.fed comes in
+answers_prefix c start k pushed text given later bytes has comes =
+    let prefix = handed_prefix c.feed pushed bytes has.handed has.fed comes in
     let s = served_so_far c k text later in
-    let all : after c.rules start (given ++ later) (items true bytes) ≡ fold (with_item c.rules) s front.0 =
-    ap (after c.rules start (given ++ later)) front.1
-    ∙ fold-append (with_item c.rules) (served_at_start start (given ++ later)) has.handed front.0
-    ∙ ap (λ (x : Served). fold (with_item c.rules) x front.0) (has.served later) in
-    let more = answers_grow c.rules s front.0 in
+    let all : after c.rules start (given ++ later) (items true bytes) ≡ fold (with_item c.rules) s prefix.0 =
+    ap (after c.rules start (given ++ later)) prefix.1
+    ∙ fold-append (with_item c.rules) (served_at_start start (given ++ later)) has.handed prefix.0
+    ∙ ap (λ (x : Served). fold (with_item c.rules) x prefix.0) (has.served later) in
+    let more = answers_grow c.rules s prefix.0 in
     (more.0, ap (λ (x : Served). x.answers) all ∙ more.1)
 
 -- once nothing is left, all of the stream is served

@@ -12,7 +12,7 @@ use Rattle.rr_host.proofs.VisitsLemmas.{called_more}
 use Rattle.rr_node.specs.declared.fault.NodeFault.{NodeFault}
 use Rattle.rr_node.specs.declared.report.Report.{Report}
 use Rattle.rr_node.specs.declared.round.Lines.{Lines}
-use Rattle.rr_node.specs.Fault.{IsOfLines, IsOfReading, of_session_fault}
+use Rattle.rr_node.specs.Fault.{IsOfLines, IsInputFault, of_session_fault}
 use Rattle.rr_node.specs.Lines.{HasServedWhole, HasStopped, IsServed, rules_of}
 use Rattle.rr_node.specs.Peers.{EndsPull}
 use Rattle.rr_node.specs.Pull.{HasStoppedPulling}
@@ -25,11 +25,12 @@ pub lines_over : (config : Config) (result : Result Report NodeFault) (came : Op
     → HasCalled a b (Gave before ∷ []) → HasCalled b c (TookBack after ∷ [])
     → IfOk result (IsServed (rules_of config.precision config.lead) (run_of old new given since before after))
     → OnErr result (HasStopped (rules_of config.precision config.lead) (run_of old new given since before after))
-    → IfErr result (λ fault. IsOfReading fault
+    → IfErr result (λ fault. IsInputFault fault
     → HasServedWhole (rules_of config.precision config.lead) (run_of old new given since before after))
     → LinesTell result before after → IfErr result IsOfLines → came ≡ going_on result
     → (calls : List Call) × HasCalled a c calls × EndsLines config came old new given since calls
-lines_over config result came a b c before after old new given since gave took served stopped at_once tell faults going = (
+lines_over config result came a b c before after old new given since gave took served stopped at_once tell faults going
+    = (
   Gave before ∷ TookBack after ∷ [],
   called_more a b c (Gave before ∷ []) (TookBack after ∷ []) gave took,
   inr (inr (

@@ -126,10 +126,10 @@ written_all f g h a b u v w has hands keeps = record {
   written = Appends-kept u v w has.text has.written keeps;
 }
 
--- all that was written is a front of it
-pub front_written : (f g : FeedState) (a b : ReaderAndGate) (u v : Option (List ℕ)) → HasWritten f g a b u v
+-- all that was written is a prefix of it
+pub prefix_written : (f g : FeedState) (a b : ReaderAndGate) (u v : Option (List ℕ)) → HasWritten f g a b u v
     → HasWrittenSome f g a b.reader u v
-front_written f g a b u v has = record {
+prefix_written f g a b u v has = record {
   first = has.items;
   later = [];
   last = b;
@@ -141,11 +141,11 @@ front_written f g a b u v has = record {
 }
 
 -- no item was there, and the writer failed to pass on what it has
-pub front_kept : (f g h : FeedState) (a b c : ReaderAndGate) (u v w : Option (List ℕ)) → HasWritten f g a b u v
+pub prefix_kept : (f g h : FeedState) (a b c : ReaderAndGate) (u v w : Option (List ℕ)) → HasWritten f g a b u v
     → HandsOut g None h → c ≡ b → Keeps v w → HasWrittenSome f h a c.reader u w
-front_kept f g h a b c u v w has hands same keeps =
+prefix_kept f g h a b c u v w has hands same keeps =
     subst (λ (s : ReaderAndGate). HasWrittenSome f h a s.reader u w) (sym same)
-    (front_written f h a b u w (written_all f g h a b u v w has hands keeps))
+    (prefix_written f h a b u w (written_all f g h a b u v w has hands keeps))
 
 -- no item was there
 pub all_kept : (f g h : FeedState) (a b c : ReaderAndGate) (u v w : Option (List ℕ)) → HasWritten f g a b u v
@@ -167,7 +167,7 @@ cut_before f g h a b reader u v item has hands seen = record {
   written = (has.text, [], sym (append-nil has.text), has.written);
 }
 
--- a front of an answer was written
+-- a prefix of an answer was written
 pub cut_within : (f g h : FeedState) (a b c : ReaderAndGate) (u v w : Option (List ℕ)) (item : Item) (text : List ℕ)
     → HasWritten f g a b u v → HandsOut g (Some item) h → IsAnswered item b c text → AppendsPrefix v w text
     → HasWrittenSome f h a c.reader u w

@@ -89,9 +89,9 @@ module _ (p : PointView) (samples : List Sample) (are : samples_of p ≡ samples
         → Tells {X = X} (is_ahead time now lead) (lacks_numbers (own_replica k) (length samples)) (Err why.AheadOfClock)
         → new ≡ k → Handled (verdict_of_point lead now (own_replica k) p) k new (Ok (says.Refused text))
     takes_ahead text named tells same =
-        let told = tells_point (Err why.AheadOfClock) tells in
+        let reported = tells_point (Err why.AheadOfClock) tells in
         let verdict = verdict_ahead (is_ahead p.time now lead) (lacks_numbers (own_replica k) (length p.fields)) p
-        (unwrap_or p.time now) (told.is_ahead.0 refl) in
+        (unwrap_or p.time now) (reported.is_ahead.0 refl) in
         subst (λ (v : Verdict). (new ≡ keeper_with k v) × IsAnswer v (says.Refused text)) (sym verdict) (same, named)
 
 -- none of a verdict's operations, as where memory ran out before the first

@@ -21,10 +21,10 @@ pub takes_refusal : (rules : Rules) (bytes : List ℕ) (k : KeeperState) (given 
     → Refuses fault result
     → HandledItem rules (Line bytes) k k given given result
 takes_refusal rules bytes k given fault (Ok answer) (inl memory) refuses = absurd (refuses.read memory)
-takes_refusal rules bytes k given fault (Ok answer) (inr said) refuses = record {
+takes_refusal rules bytes k given fault (Ok answer) (inr parsed) refuses = record {
   asked = [];
   gave = HasGiven-nil given;
-  taken = inl (rw said refl, rw said (refl, refuses.named));
+  taken = inl (rw parsed refl, rw parsed (refl, refuses.named));
   count_fits = refuses.count_fits;
 }
 takes_refusal rules bytes k given fault (Err e) unless refuses = record {
@@ -37,9 +37,9 @@ takes_refusal rules bytes k given fault (Err e) unless refuses = record {
 -- nor does an empty line or a comment, which says nothing
 pub takes_nothing : (rules : Rules) (bytes : List ℕ) (k : KeeperState) (given : Option (List ℤ))
     → reading rules.precision bytes ≡ Ok nothing → HandledItem rules (Line bytes) k k given given (Ok says.Nothing)
-takes_nothing rules bytes k given said = record {
+takes_nothing rules bytes k given parsed = record {
   asked = [];
   gave = HasGiven-nil given;
-  taken = inl (rw said refl, rw said (refl, tt));
+  taken = inl (rw parsed refl, rw parsed (refl, tt));
   count_fits = tt;
 }

@@ -6,7 +6,7 @@ use Rattle.rr_node.specs.declared.fault.NodeFault.{NodeFault}
 use Rattle.rr_node.specs.declared.fault.NodeFault.TheVariants.{Memory, Session}
 use Rattle.rr_node.specs.Fault.{IsOfReader}
 use Rattle.rr_node.specs.Fetches.{ReaderAndGate, IsServed}
-use Rattle.rr_node.specs.Seats.{AreVisits, HasServedSeat, HasVisited, IsStreamServed, IsVisit, told_of_schema}
+use Rattle.rr_node.specs.Seats.{AreVisits, HasServedSeat, HasVisited, IsStreamServed, IsVisit, reported_of_schema}
 use Rattle.rr_node.proofs.BlameLemmas.{LinesTell, SessionTells, blamed}
 use Rattle.rr_host.proofs.VisitsLemmas.{called_more}
 use Rattle.rr_host.specs.Streams.{Stream}
@@ -15,14 +15,14 @@ use Rattle.rr_host.specs.Visits.{Call, Gave, HasCalled, TookBack}
 -- a connection that was given and handed back
 pub stream_served : (result : Result (Unit {0}) NodeFault) (a b c d : Option (List Call)) (before after : Stream)
     (old new : ReaderAndGate)
-    → HasCalled a b (Gave before ∷ []) → HasCalled b c (told_of_schema result) → HasCalled c d (TookBack after ∷ [])
+    → HasCalled a b (Gave before ∷ []) → HasCalled b c (reported_of_schema result) → HasCalled c d (TookBack after ∷ [])
     → IsServed result before.input.left after.input.left before.output.written after.output.written old new
     → IfErr result IsOfReader → LinesTell result before after → SessionTells result Session before after
     → (calls : List Call) × HasCalled a d calls × IsStreamServed result calls old new
-stream_served result a b c d before after old new gave told took served faults lines given = (
-  Gave before ∷ (told_of_schema result ++ TookBack after ∷ []),
-  called_more a b d (Gave before ∷ []) (told_of_schema result ++ TookBack after ∷ []) gave
-      (called_more b c d (told_of_schema result) (TookBack after ∷ []) told took),
+stream_served result a b c d before after old new gave reported took served faults lines given = (
+  Gave before ∷ (reported_of_schema result ++ TookBack after ∷ []),
+  called_more a b d (Gave before ∷ []) (reported_of_schema result ++ TookBack after ∷ []) gave
+      (called_more b c d (reported_of_schema result) (TookBack after ∷ []) reported took),
   record {
     before = before;
     after = after;

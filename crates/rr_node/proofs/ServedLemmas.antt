@@ -45,11 +45,12 @@ of_first fault (inr e) = inr (inr (inl e))
 
 -- the first byte was not read
 pub served_unread : {X : Type 0} (fault : NodeFault) (had left out : Option (List ℕ)) (at : ReaderAndGate)
-    → Consumes had left [] → (fault ≡ ReadFailed) ⊎ (fault ≡ TooManyReads) → IsServed {X = X} (Err fault) had left out out at at
+    → Consumes had left [] → (fault ≡ ReadFailed) ⊎ (fault ≡ TooManyReads)
+        → IsServed {X = X} (Err fault) had left out out at at
 served_unread {X} fault had left out at unread why = record {
   seen = seen_same at.reader;
   answered = tt;
-  front = err_known {X = X} (Err fault) had (λ bytes. is_pull bytes ≡ false
+  prefix = err_known {X = X} (Err fault) had (λ bytes. is_pull bytes ≡ false
       → HasAnsweredSome bytes at at.reader out out) (λ f bytes e is pull. none_answered bytes at out);
   at_once = λ reading. of_each had (λ bytes. is_pull bytes ≡ false → HasAnsweredTaken [] had left at at out out)
       (λ bytes pull. ([], unread, record { text = []; answered = (refl, refl); written = Appends-nil out }));

@@ -150,11 +150,11 @@ pub of_each : (had : Option (List ℕ)) (P : List ℕ → Type 0) → ((rest : L
 of_each None P each = tt
 of_each (Some rest) P each = each rest
 
--- a front of the answers is written, whatever comes
-pub front_so_far : (first : ℕ) (feed : FeedState) (had left before after : Option (List ℕ)) (old new : ReaderAndGate)
+-- a prefix of the answers is written, whatever comes
+pub prefix_so_far : (first : ℕ) (feed : FeedState) (had left before after : Option (List ℕ)) (old new : ReaderAndGate)
     (reader : ReaderState) → SoFar first feed had left before after old new → feed.ended ≡ false
     → HasSeenMore new.reader reader → IfSome had (λ rest. HasAnsweredSome (first ∷ rest) old reader before after)
-front_so_far first feed had left before after old new reader so_far going seen =
+prefix_so_far first feed had left before after old new reader so_far going seen =
     of_all_bytes had left so_far.taken (λ rest. HasAnsweredSome (first ∷ rest) old reader before after) so_far.consumed
     (λ more. record {
       first = so_far.handed;
@@ -171,11 +171,12 @@ regroup : {A : Type 0} (a b c d : List A) → (a ++ (b ++ c)) ++ d ≡ (a ++ b) 
 regroup a b c d = simp append_assoc
 
 -- so it is where not all of the next ones were answered
-pub front_of_some : (first : ℕ) (f g : FeedState) (had left before mid after : Option (List ℕ)) (old at : ReaderAndGate)
+pub prefix_of_some : (first : ℕ) (f g : FeedState) (had left before mid after : Option (List ℕ))
+    (old at : ReaderAndGate)
     (reader : ReaderState) → SoFar first f had left before mid old at → f.ended ≡ false
     → HasWrittenSome f g at reader mid after → IfSome had
     (λ rest. HasAnsweredSome (first ∷ rest) old reader before after)
-front_of_some first f g had left before mid after old at reader so_far going some =
+prefix_of_some first f g had left before mid after old at reader so_far going some =
     of_all_bytes had left so_far.taken (λ rest. HasAnsweredSome (first ∷ rest) old reader before after) so_far.consumed
     (λ more.
     let ended : g.ended ≡ false = some.handed.ended ∙ going in

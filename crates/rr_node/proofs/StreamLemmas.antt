@@ -15,30 +15,30 @@ use Rattle.rr_node.specs.declared.report.Report.{Report}
 use Rattle.rr_node.specs.declared.rules.Rules.{Rules}
 use Rattle.rr_node.specs.Connection.{ComesAfter, StoppedByMemory, HasServed, IsWhole, ServedItems, served_so_far, Stops}
 use Rattle.rr_node.specs.Lines.{Served, after, answer_of, asks_clock, report_text}
-use Rattle.rr_node.proofs.ConnectionLemmas.{answer_front, answers_front, comes_too, ends_here, ends_of, served_all}
+use Rattle.rr_node.proofs.ConnectionLemmas.{answer_prefix, answers_prefix, comes_too, ends_here, ends_of, served_all}
 
--- a writer that has the answers so far has a front of the whole answer
+-- a writer that has the answers so far has a prefix of the whole answer
 pub answered_so_far : (c : Connection) (start k : KeeperState) (pushed text : List ℕ) (given moments later : List ℤ)
     (bytes : List ℕ) (first written : Option (List ℕ)) → HasServed c start pushed given k text
     → ComesAfter c.feed pushed bytes → Appends first written text
     → AppendsPrefix first written (answer_of (after c.rules start ((given ++ moments) ++ later) (items true bytes)))
 answered_so_far c start k pushed text given moments later bytes first written has comes appends =
-    let front = answer_front c start k pushed text given (moments ++ later) bytes has comes in (
+    let prefix = answer_prefix c start k pushed text given (moments ++ later) bytes has comes in (
       text,
-      front.0,
+      prefix.0,
       ap (λ (m : List ℤ). answer_of (after c.rules start m (items true bytes)))
-          (append_assoc given moments later) ∙ front.1,
+          (append_assoc given moments later) ∙ prefix.1,
       appends,
     )
 
--- so does one that has a front of these answers
+-- so does one that has a prefix of these answers
 pub answered_in_part : (c : Connection) (start k : KeeperState) (pushed text : List ℕ) (given later : List ℤ)
     (bytes : List ℕ) (first since : Option (List ℕ)) → HasServed c start pushed given k text
     → ComesAfter c.feed pushed bytes → AppendsPrefix first since text
     → AppendsPrefix first since (answer_of (after c.rules start (given ++ later) (items true bytes)))
 answered_in_part c start k pushed text given later bytes first since has comes part =
-    let front = answer_front c start k pushed text given later bytes has comes in
-    subst (AppendsPrefix first since) (sym front.1) (prefix_before first since text front.0 part)
+    let prefix = answer_prefix c start k pushed text given later bytes has comes in
+    subst (AppendsPrefix first since) (sym prefix.1) (prefix_before first since text prefix.0 part)
 
 -- so it has of the answers alone
 pub answers_so_far : (c : Connection) (start k : KeeperState) (pushed text : List ℕ) (given moments later : List ℤ)
@@ -46,11 +46,11 @@ pub answers_so_far : (c : Connection) (start k : KeeperState) (pushed text : Lis
     → ComesAfter c.feed pushed bytes → Appends first written text
     → AppendsPrefix first written (after c.rules start ((given ++ moments) ++ later) (items true bytes)).answers
 answers_so_far c start k pushed text given moments later bytes first written has comes appends =
-    let front = answers_front c start k pushed text given (moments ++ later) bytes has comes in (
+    let prefix = answers_prefix c start k pushed text given (moments ++ later) bytes has comes in (
       text,
-      front.0,
+      prefix.0,
       ap (λ (m : List ℤ). (after c.rules start m (items true bytes)).answers)
-          (append_assoc given moments later) ∙ front.1,
+          (append_assoc given moments later) ∙ prefix.1,
       appends,
     )
 
@@ -59,8 +59,8 @@ pub answers_in_part : (c : Connection) (start k : KeeperState) (pushed text : Li
     → ComesAfter c.feed pushed bytes → AppendsPrefix first since text
     → AppendsPrefix first since (after c.rules start (given ++ later) (items true bytes)).answers
 answers_in_part c start k pushed text given later bytes first since has comes part =
-    let front = answers_front c start k pushed text given later bytes has comes in
-    subst (AppendsPrefix first since) (sym front.1) (prefix_before first since text front.0 part)
+    let prefix = answers_prefix c start k pushed text given later bytes has comes in
+    subst (AppendsPrefix first since) (sym prefix.1) (prefix_before first since text prefix.0 part)
 
 -- memory ran out while lines were served, and nothing more was written
 pub stops_serving : (c : Connection) (start k now : KeeperState) (pushed text : List ℕ) (given moments : List ℤ)
@@ -75,7 +75,7 @@ stops_serving c start k now pushed text given moments first written ends has app
       comes appends);
 }
 
--- lines were served, and a front of the answers to them was written
+-- lines were served, and a prefix of the answers to them was written
 pub stops_answering : (old new : Connection) (start k now : KeeperState) (pushed text more : List ℕ)
     (given moments : List ℤ) (first written since : Option (List ℕ)) → ServedItems old new k now moments more
     → HasServed old start pushed given k text → Appends first written text → AppendsPrefix written since more

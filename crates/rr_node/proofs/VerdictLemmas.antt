@@ -67,8 +67,9 @@ keeper_with_all k (put p time) = ap (with_puts k p time) (sym (take_all (length 
 keeper_with_all k (refused name) = refl
 
 -- what isn't a point means the same at each moment
-unasked_line : (lead : Option ℕ) (a b : ℤ) (h : ReplicaState) (said : Result LineView LineFault) → is_point said ≡ false
-    → verdict_of_line lead a h said ≡ verdict_of_line lead b h said
+unasked_line : (lead : Option ℕ) (a b : ℤ) (h : ReplicaState) (parsed : Result LineView LineFault)
+    → is_point parsed ≡ false
+    → verdict_of_line lead a h parsed ≡ verdict_of_line lead b h parsed
 unasked_line lead a b h (Ok nothing) e = refl
 unasked_line lead a b h (Ok (point p)) e = absurd cc
 unasked_line lead a b h (Err fault) e = refl

@@ -31,7 +31,7 @@ pub record HasWritten (feed fed : FeedState) (old new : ReaderAndGate) (before a
   pub answered : AreAnswered items old new text
   pub written : Appends before after text
 
--- items were handed out, the first of them answered, and a front of the answers written
+-- items were handed out, the first of them answered, and a prefix of the answers written
 pub record HasWrittenSome (feed fed : FeedState) (old : ReaderAndGate) (new : ReaderState)
     (before after : Option (List ℕ)) : Type 0 where
   pub first : List Item

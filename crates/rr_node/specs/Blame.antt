@@ -3,7 +3,7 @@ use Rattle.std.specs.Prelude.{◌≡◌, ◌⊎◌, ℕ, ◌≤◌, true, List, 
 use Rattle.std.specs.Io.KnownBytes.{Consumes}
 use Rattle.rr_io.specs.declared.counted.Counted.{Counted}
 use Rattle.rr_io.specs.Counted.{ends_of, inner_of, is_flushed}
-use Rattle.rr_io.specs.Stream.{HasFailed, HasFewReads, HasReads, IsReadOut, KeepsFailures, WritesFront, WritesWhole}
+use Rattle.rr_io.specs.Stream.{HasFailed, HasFewReads, HasReads, IsReadOut, KeepsFailures, WritesPrefix, WritesWhole}
 use Rattle.rr_text.specs.declared.limits.TheConstants.{MAX_READS}
 use Rattle.rr_node.specs.declared.fault.NodeFault.{NodeFault}
 use Rattle.rr_node.specs.declared.fault.NodeFault.TheVariants.{ReadFailed, TooManyReads, WriteFailed}
@@ -39,9 +39,9 @@ pub record ReadsFirst {R : Type 0} (remaining : R → Option (List ℕ)) (old ne
   pub faults : IfErr result (λ fault. (fault ≡ ReadFailed) ⊎ (fault ≡ TooManyReads))
   pub failures_never_fall : KeepsFailures old new
 
--- the whole text was written and passed on; or a front of it was written, and the result says why no more was
+-- the whole text was written and passed on; or a prefix of it was written, and the result says why no more was
 pub record Sends {W X : Type 0} (contents : W → Option (List ℕ)) (old new : Counted W) (text : List ℕ)
     (result : Result X NodeFault) : Type 0 where
   pub whole : OnOk result (WritesWhole contents old new text)
-  pub front : WritesFront contents old new text
+  pub prefix : WritesPrefix contents old new text
   pub writes : WritesOut old new result

@@ -3,7 +3,7 @@ use Rattle.std.specs.Prelude.{◌≡◌, ◌≢◌, ◌⊎◌, ℕ, ◌+◌, ◌
 use Rattle.std.specs.declared.alloc.AllocError.{AllocError}
 use Rattle.std.specs.Io.KnownBytes.{Appends}
 use mathlib.Core.List.{IsPrefix}
-use Rattle.rr_node.specs.declared.lines.TheConstants.{PIECE}
+use Rattle.rr_feed.specs.declared.piece.TheConstants.{PIECE}
 use Rattle.rr_feed.specs.Feed.{FeedState, empty_feed, items_left, state, MayCome}
 use Rattle.rr_feed.specs.Items.{Item, items}
 use Rattle.rr_feed.specs.Laws.{IsFed}
@@ -16,7 +16,7 @@ use Rattle.rr_line.specs.Fault.{line_fault_name}
 use Rattle.rr_line.specs.Known.{Sample, samples_of}
 use Rattle.rr_point.specs.Point.{PointView}
 use Rattle.rr_text.specs.declared.limits.TheConstants.{MAX_FIELDS}
-use Rattle.rr_fetch.specs.Records.{refusal_text}
+use Rattle.rr_text.specs.Refusal.{refusal_text}
 use Rattle.rr_desk.specs.KeeperState.{KeeperState, own_replica, with_all_published}
 use Rattle.rr_node.specs.declared.answer.Answer.{Answer}
 use Rattle.rr_node.specs.declared.answer.Answer.TheVariants as says
@@ -159,7 +159,7 @@ pub record ServedAllItems (old new : Connection) (before now : KeeperState) (mom
 abbrev pub ComesAfter : FeedState → List ℕ → List ℕ → Type 0
 ComesAfter feed pushed bytes = (more : List ℕ) × (bytes ≡ pushed ++ more) × MayCome feed more true
 
--- these lines, which are a front of the items whatever comes, were served with these moments, and the first operations
+-- these lines, which are a prefix of the items whatever comes, were served with these moments, and the first operations
 -- of one more; or they are all of them, and all was published
 pub record EndsWithin (rules : Rules) (start now : KeeperState) (Comes : List ℕ → Type 0) (moments : List ℤ)
     : Type 0 where
@@ -172,7 +172,7 @@ pub record EndsWithin (rules : Rules) (start now : KeeperState) (Comes : List �
       ⊎ ((last ≡ []) × ((bytes : List ℕ) → Comes bytes → lines ≡ items true bytes)
       × (now ≡ with_all_published (after rules start moments lines).keeper))
 
--- a call ended within these lines, and a front of their answer was written, whatever the clock gives later
+-- a call ended within these lines, and a prefix of their answer was written, whatever the clock gives later
 pub record Stops (rules : Rules) (start now : KeeperState) (Comes : List ℕ → Type 0) (moments : List ℤ)
     (written since : Option (List ℕ)) : Type 0 where
   pub ends : EndsWithin rules start now Comes moments
@@ -221,7 +221,8 @@ ServedAll old before now counted moments written since =
 -- the clock was renewed, all lines that came were served, and what is answered to them was written and passed on; or
 -- memory ran out or a write failed, and the lines were served so far
 pub record AnswersLines {C W X : Type 0} (given : C → Option (List ℤ)) (renewals : C → ℕ)
-    (contents : W → Option (List ℕ)) (old new : Connection) (before now : KeeperState) (clock clock_new : C) (output output_new : Counted W)
+    (contents : W → Option (List ℕ)) (old new : Connection) (before now : KeeperState) (clock clock_new : C)
+        (output output_new : Counted W)
     (result : Result X NodeFault) : Type 0 where
   pub served : OnOk result ((moments : List ℤ) × (text : List ℕ) × HasGiven (given clock) (given clock_new) moments
       × WritesWhole contents output output_new text × ServedAllItems old new before now moments text)
@@ -234,7 +235,8 @@ pub record AnswersLines {C W X : Type 0} (given : C → Option (List ℤ)) (rene
 -- the clock was renewed, the lines of the whole input were served, all was published, and all answers and the report were
 -- written and passed on; or memory ran out or a write failed, and the lines were served so far
 pub record Finishes {C W : Type 0} (given : C → Option (List ℤ)) (renewals : C → ℕ) (contents : W → Option (List ℕ))
-    (old : Connection) (before now : KeeperState) (clock clock_new : C) (output output_new : Counted W) (result : Result Report NodeFault)
+    (old : Connection) (before now : KeeperState) (clock clock_new : C) (output output_new : Counted W)
+        (result : Result Report NodeFault)
     : Type 0 where
   pub served : IfOk result (λ counted. (moments : List ℤ) × HasGiven (given clock) (given clock_new) moments
       × ServedAll old before now counted moments (contents (inner_of output)) (contents (inner_of output_new)))

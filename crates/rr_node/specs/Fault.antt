@@ -54,8 +54,8 @@ IsOfLines fault = (fault ≡ node.ReadFailed) ⊎ (fault ≡ node.WriteFailed) �
     ⊎ (fault ≡ node.Memory)
 
 -- those of an input that isn't read to its end
-abbrev pub IsOfReading : NodeFault → Type 0
-IsOfReading fault = (fault ≡ node.ReadFailed) ⊎ (fault ≡ node.TooManyReads)
+abbrev pub IsInputFault : NodeFault → Type 0
+IsInputFault fault = (fault ≡ node.ReadFailed) ⊎ (fault ≡ node.TooManyReads)
 
 -- those of a session
 abbrev pub IsOfSession : NodeFault → Type 0

@@ -27,7 +27,7 @@ use Rattle.rr_gossip.specs.declared.frame.TheConstants.{MAX_FRAMES}
 use Rattle.rr_gossip.specs.Session.{HasGiven, HasFailedToGive}
 use Rattle.rr_node.specs.declared.fault.NodeFault.{NodeFault}
 use Rattle.rr_node.specs.declared.fault.NodeFault.TheVariants.{ReadFailed, Session, TooManyReads}
-use Rattle.rr_node.specs.Fault.{IsOfLines, IsOfReading, IsOfSession, of_session_fault}
+use Rattle.rr_node.specs.Fault.{IsOfLines, IsInputFault, IsOfSession, of_session_fault}
 
 -- ---- one line
 
@@ -117,7 +117,8 @@ is_pull [] = false
 is_pull (byte ∷ bytes) = byte == 0
 
 -- the answers to all lines of these bytes were written; the last one may lack its line feed where they have ended
-pub record HasAnswered (ended : Bool) (bytes : List ℕ) (old new : ReaderAndGate) (before after : Option (List ℕ)) : Type 0 where
+pub record HasAnswered (ended : Bool) (bytes : List ℕ) (old new : ReaderAndGate) (before after : Option (List ℕ)) : Type
+    0 where
   pub text : List ℕ
   pub answered : AreAnswered (items ended bytes) old new text
   pub written : Appends before after text
@@ -128,7 +129,7 @@ abbrev pub HasAnsweredTaken : List ℕ → Option (List ℕ) → Option (List �
 HasAnsweredTaken bytes had left old new before after =
     (taken : List ℕ) × Consumes had left taken × HasAnswered false (bytes ++ taken) old new before after
 
--- a front of the answers to the first lines of these bytes was written, after which the reader may have seen more
+-- a prefix of the answers to the first lines of these bytes was written, after which the reader may have seen more
 pub record HasAnsweredSome (bytes : List ℕ) (old : ReaderAndGate) (new : ReaderState)
     (before after : Option (List ℕ)) : Type 0 where
   pub first : List Item
@@ -175,9 +176,9 @@ pub record IsServed {X : Type 0} (result : Result X NodeFault) (had left before 
     (old new : ReaderAndGate) : Type 0 where
   pub seen : HasSeenMore old.reader new.reader
   pub answered : OnOk result (IfSome had (λ bytes. is_pull bytes ≡ false → HasAnswered true bytes old new before after))
-  pub front : OnErr result (IfSome had (λ bytes. is_pull bytes ≡ false
+  pub prefix : OnErr result (IfSome had (λ bytes. is_pull bytes ≡ false
       → HasAnsweredSome bytes old new.reader before after))
-  pub at_once : IfErr result (λ fault. IsOfReading fault → IfSome had (λ bytes. is_pull bytes ≡ false
+  pub at_once : IfErr result (λ fault. IsInputFault fault → IfSome had (λ bytes. is_pull bytes ≡ false
       → HasAnsweredTaken [] had left old new before after))
   pub faults : IfErr result (λ fault. IfSome had (λ bytes. is_pull bytes ≡ false → IsOfLines fault))
   pub given : OnOk result (IfSome had (λ bytes. is_pull bytes ≡ true

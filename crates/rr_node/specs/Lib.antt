@@ -1,7 +1,6 @@
 pub mod Fault
 pub mod Blame
 pub mod Shelf
-pub mod PreparedShelf
 pub mod Pull
 pub mod Peers
 pub mod Saving

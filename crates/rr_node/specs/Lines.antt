@@ -12,7 +12,7 @@ use Rattle.rr_line.specs.Fault.{line_fault_name}
 use Rattle.rr_point.specs.Point.{PointView}
 use Rattle.rr_line.specs.Line.{LineView, nothing, point}
 use Rattle.rr_line.specs.Reading.{reading}
-use Rattle.rr_fetch.specs.Records.{refusal_text}
+use Rattle.rr_text.specs.Refusal.{refusal_text}
 use Rattle.rr_cells.specs.ReplicaState.{ReplicaState}
 use Rattle.rr_replica.specs.Writing.{is_ahead, lacks_numbers}
 use Rattle.rr_desk.specs.Points.{with_puts}
@@ -24,7 +24,7 @@ use Rattle.rr_node.specs.declared.rules.Rules.{Rules}
 use Rattle.rr_node.specs.declared.rules.TheConstants.{LINES_TO_PUBLISH}
 use Rattle.rr_host.specs.Clock.{HasGiven}
 use Rattle.rr_node.specs.Blame.{ReadsWithin, StaysFlushed}
-use Rattle.rr_node.specs.Fault.{IsOfLines, IsOfReading}
+use Rattle.rr_node.specs.Fault.{IsOfLines, IsInputFault}
 
 -- lines whose times have this precision, and that may be this much ahead of the clock
 abbrev pub rules_of : Precision → Option ℕ → Rules
@@ -194,7 +194,7 @@ keeper_within rules s (item ∷ later) count =
     keeper_with_some s.keeper (verdict_of rules (first_of s.moments) (own_replica s.keeper) item) count
 
 -- Some lines of the input were served, and perhaps the first operations of one more; or all of them were, and all was
--- published. Readers may see what they saw, and perhaps more. What was answered is a front of the whole answer,
+-- published. Readers may see what they saw, and perhaps more. What was answered is a prefix of the whole answer,
 -- whatever the clock gives later.
 pub record HasStopped (rules : Rules) (run : Run) : Type 0 where
   pub lines : List Item
@@ -231,9 +231,9 @@ pub record ServesLines {W : Type 0} (rules : Rules) (run : Run) (output output_n
     (result : Result Report NodeFault) : Type 0 where
   pub served : IfOk result (IsServed rules run)
   pub stopped : OnErr result (HasStopped rules run)
-  pub at_once : IfErr result (λ fault. IsOfReading fault → HasServedWhole rules run)
+  pub at_once : IfErr result (λ fault. IsInputFault fault → HasServedWhole rules run)
   pub flushed : OnOk result (is_flushed output_new ≡ true)
-  pub stays_flushed : IfErr result (λ fault. IsOfReading fault → StaysFlushed output output_new)
+  pub stays_flushed : IfErr result (λ fault. IsInputFault fault → StaysFlushed output output_new)
   pub faults : IfErr result IsOfLines
   pub write_failed : result ≡ Err WriteFailed → HasFailed output output_new
 

@@ -33,29 +33,29 @@ EndsPull address old new dialed fault =
     × EndsSession old new before after fault)
 
 -- what is told of a peer's fault, if it had one
-abbrev pub told_of : ℕ → Option NodeFault → List ShelfCall
-told_of number None = []
-told_of number (Some fault) = peer_failed number fault ∷ []
+abbrev pub reported_of : ℕ → Option NodeFault → List ShelfCall
+reported_of number None = []
+reported_of number (Some fault) = peer_failed number fault ∷ []
 
 -- what is told of a peer that is done with, by whether the keeper's next number rose meanwhile: it puts no sample in a
 -- pull, so then a cell of its own origin came that it never wrote
-abbrev pub told_of_peer : ℕ → Bool → Option NodeFault → List ShelfCall
-told_of_peer number false fault = told_of number fault
-told_of_peer number true fault = own_origin number ∷ told_of number fault
+abbrev pub reported_of_peer : ℕ → Bool → Option NodeFault → List ShelfCall
+reported_of_peer number false fault = reported_of number fault
+reported_of_peer number true fault = own_origin number ∷ reported_of number fault
 
 -- a peer is done with, and what ended it is told
 pub record IsPast (number : ℕ) (address : List ℕ) (old new : KeeperState) (dialed : List DialCall)
-    (told : List ShelfCall) : Type 0 where
+    (reported : List ShelfCall) : Type 0 where
   pub fault : Option NodeFault
   pub skipped : IfSome fault (λ why. why ≢ Memory)
   pub pulled : EndsPull address old new dialed fault
-  pub told_so : told ≡ told_of_peer number (nat_lt old.next new.next) fault
+  pub reported_so : reported ≡ reported_of_peer number (nat_lt old.next new.next) fault
 
 -- the pulls from these peers, of which the first has this number, go on to the last, or until memory runs out in one
 abbrev pub EndsPulls : Bool → ℕ → List (List ℕ) → KeeperState → KeeperState → List DialCall → List ShelfCall → Type 0
-EndsPulls whole number [] old new dialed told = (whole ≡ true) × (new ≡ old) × (dialed ≡ []) × (told ≡ [])
-EndsPulls whole number (address ∷ later) old new dialed told =
-    ((whole ≡ false) × EndsPull address old new dialed (Some Memory) × (told ≡ []))
-    ⊎ ((mid : KeeperState) × (first next : List DialCall) × (told_first told_next : List ShelfCall)
-    × IsPast number address old mid first told_first × EndsPulls whole (number + 1) later mid new next told_next
-    × (dialed ≡ first ++ next) × (told ≡ told_first ++ told_next))
+EndsPulls whole number [] old new dialed reported = (whole ≡ true) × (new ≡ old) × (dialed ≡ []) × (reported ≡ [])
+EndsPulls whole number (address ∷ later) old new dialed reported =
+    ((whole ≡ false) × EndsPull address old new dialed (Some Memory) × (reported ≡ []))
+    ⊎ ((mid : KeeperState) × (first next : List DialCall) × (reported_first reported_next : List ShelfCall)
+    × IsPast number address old mid first reported_first × EndsPulls whole (number + 1) later mid new next reported_next
+    × (dialed ≡ first ++ next) × (reported ≡ reported_first ++ reported_next))

@@ -13,7 +13,7 @@ use Rattle.rr_host.specs.Calls.{DialCall}
 use Rattle.rr_host.specs.Streams.{Stream}
 use Rattle.rr_node.specs.declared.round.Lines.{Lines}
 use Rattle.rr_node.specs.declared.round.Lines.TheVariants as lines
-use Rattle.rr_node.specs.Fault.{IsOfLines, IsOfReading, IsToBlame, is_memory}
+use Rattle.rr_node.specs.Fault.{IsOfLines, IsInputFault, IsToBlame, is_memory}
 use Rattle.rr_node.specs.Shelf.{ShelfCall, counts, past_horizon, pulled, taken}
 use Rattle.rr_node.specs.Lines.{Run, IsServed, HasServedWhole, HasStopped, rules_of}
 use Rattle.rr_node.specs.Peers.{EndsPulls}
@@ -49,7 +49,7 @@ pub record EndsConnection (rules : Rules) (run : Run) (before after : Stream) (c
   pub result : Result Report NodeFault
   pub served : IfOk result (IsServed rules run)
   pub stopped : OnErr result (HasStopped rules run)
-  pub at_once : IfErr result (λ fault. IsOfReading fault → HasServedWhole rules run)
+  pub at_once : IfErr result (λ fault. IsInputFault fault → HasServedWhole rules run)
   pub faults : IfErr result IsOfLines
   pub blamed : IfErr result (IsToBlame before after)
   pub going : came ≡ going_on result
@@ -79,9 +79,9 @@ end_of_pulls k wanted =
 abbrev pub EndsRest : Config → Option Bool → KeeperState → KeeperState → List DialCall → List ShelfCall → Type 0
 EndsRest config came old new dialed shelved =
     ((came ≡ None) × EndsPulls false 1 (peers_of config) old new dialed shelved)
-    ⊎ ((told saved : List ShelfCall) × (wanted : Bool) × EndsPulls true 1 (peers_of config) old new dialed told
+    ⊎ ((reported saved : List ShelfCall) × (wanted : Bool) × EndsPulls true 1 (peers_of config) old new dialed reported
     × (((came ≡ Some true) × EndsSave true new saved) ⊎ ((came ≡ None) × EndsSave false new saved))
-    × (shelved ≡ told ++ (end_of_pulls new wanted ++ saved)))
+    × (shelved ≡ reported ++ (end_of_pulls new wanted ++ saved)))
 
 -- a whole round: where no connection will come, and where memory ran out in one, there is nothing else; else the shelf
 -- is told the connection's report first

@@ -18,11 +18,11 @@ abbrev pub snapshot_of : KeeperState → List ℕ
 snapshot_of k = snapshot_text latest k.schema k.origin (entries (cells_of k))
 
 -- what a shelf is told of a save: that it failed, unless memory ran out
-abbrev pub told_of_save : Result (Unit {0}) SaveFault → List ShelfCall
-told_of_save (Ok x) = []
-told_of_save (Err why.Memory) = []
-told_of_save (Err why.WriteFailed) = save_failed why.WriteFailed ∷ []
-told_of_save (Err why.TooManyCells) = save_failed why.TooManyCells ∷ []
+abbrev pub reported_of_save : Result (Unit {0}) SaveFault → List ShelfCall
+reported_of_save (Ok x) = []
+reported_of_save (Err why.Memory) = []
+reported_of_save (Err why.WriteFailed) = save_failed why.WriteFailed ∷ []
+reported_of_save (Err why.TooManyCells) = save_failed why.TooManyCells ∷ []
 
 -- whether memory sufficed for a save
 abbrev pub sufficed : Result (Unit {0}) SaveFault → Bool
@@ -31,14 +31,14 @@ sufficed (Err why.Memory) = false
 sufficed (Err why.WriteFailed) = true
 sufficed (Err why.TooManyCells) = true
 
--- a writer was opened, all of the snapshot was written, or a front of it as the writer failed or memory ran out, or
+-- a writer was opened, all of the snapshot was written, or a prefix of it as the writer failed or memory ran out, or
 -- none as there are too many cells; and the writer was handed back
 pub record IsWritten (k : KeeperState) (saved : Result (Unit {0}) SaveFault) (shelved : List ShelfCall) : Type 0 where
   pub before : Output
   pub after : Output
-  pub calls : shelved ≡ opened before ∷ put_back after (is_ok saved) ∷ told_of_save saved
+  pub calls : shelved ≡ opened before ∷ put_back after (is_ok saved) ∷ reported_of_save saved
   pub whole : OnOk saved (Appends before.written after.written (snapshot_of k))
-  pub front : AppendsPrefix before.written after.written (snapshot_of k)
+  pub prefix : AppendsPrefix before.written after.written (snapshot_of k)
   pub too_many : (saved ≡ Err why.TooManyCells) ↔ (MAX_SNAPSHOT_CELLS < len (cells_of k))
   pub nothing_written : saved ≡ Err why.TooManyCells → Keeps before.written after.written
   pub failed : saved ≡ Err why.WriteFailed → HasRisen before.failures after.failures

@@ -10,17 +10,17 @@ use Rattle.rr_host.specs.Visits.{Call, Differs, Gave, Failed, Over, TookBack}
 
 -- what the visits are told of a connection before it is handed back: that the peer has another schema, where this ended
 -- a session
-abbrev pub told_of_schema : Result (Unit {0}) NodeFault → List Call
-told_of_schema (Ok x) = []
-told_of_schema (Err (Session SchemaDiffers)) = Differs ∷ []
-told_of_schema (Err fault) = []
+abbrev pub reported_of_schema : Result (Unit {0}) NodeFault → List Call
+reported_of_schema (Ok x) = []
+reported_of_schema (Err (Session SchemaDiffers)) = Differs ∷ []
+reported_of_schema (Err fault) = []
 
 -- a connection was given, served with this result, and handed back
 pub record IsStreamServed (result : Result (Unit {0}) NodeFault) (calls : List Call) (old new : ReaderAndGate)
     : Type 0 where
   pub before : Stream
   pub after : Stream
-  pub made : calls ≡ Gave before ∷ (told_of_schema result ++ TookBack after ∷ [])
+  pub made : calls ≡ Gave before ∷ (reported_of_schema result ++ TookBack after ∷ [])
   pub served : IsServed result before.input.left after.input.left before.output.written after.output.written old new
   pub faults : IfErr result IsOfReader
   pub blamed : IfErr result (IsToBlame before after)

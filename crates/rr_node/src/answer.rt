@@ -18,7 +18,7 @@ use rr_feed::{FeedLine, LINE_TOO_LONG};
 use rr_host::Clock;
 use rr_key::SeriesKey;
 use rr_line::{KnownLine, LastTime, Line, LineFault, Point, Precision, parse_line, read_known};
-use rr_replica::{Hint, WriteFault};
+use rr_replica::{AHEAD_OF_CLOCK, Hint, NUMBERS_SPENT, WriteFault};
 use rr_text::limits::MAX_FIELDS;
 use std::alloc::{AllocError, Global};
 
@@ -49,8 +49,8 @@ fn write_point<A: Cells, C: Clock>(
     match keeper.write(point, now, lead) {
         Ok(count) => Ok(Answer::Put(count)),
         Err(WriteFault::Memory { .. }) => Err(AllocError),
-        Err(WriteFault::AheadOfClock) => Ok(Answer::Refused("AheadOfClock")),
-        Err(WriteFault::NumbersSpent) => Ok(Answer::Refused("NumbersSpent")),
+        Err(WriteFault::AheadOfClock) => Ok(Answer::Refused(AHEAD_OF_CLOCK)),
+        Err(WriteFault::NumbersSpent) => Ok(Answer::Refused(NUMBERS_SPENT)),
     }
 }
 
@@ -72,8 +72,8 @@ fn write_sample<A: Cells, C: Clock>(
     match keeper.write_sample(hint, key, time, value, now, lead) {
         Ok(()) => Ok(Answer::Put(1)),
         Err(WriteFault::Memory { .. }) => Err(AllocError),
-        Err(WriteFault::AheadOfClock) => Ok(Answer::Refused("AheadOfClock")),
-        Err(WriteFault::NumbersSpent) => Ok(Answer::Refused("NumbersSpent")),
+        Err(WriteFault::AheadOfClock) => Ok(Answer::Refused(AHEAD_OF_CLOCK)),
+        Err(WriteFault::NumbersSpent) => Ok(Answer::Refused(NUMBERS_SPENT)),
     }
 }
 
@@ -94,8 +94,8 @@ fn write_samples<A: Cells, C: Clock>(
     match keeper.write_samples(values, time, now, lead) {
         Ok(count) => Ok(Answer::Put(count)),
         Err(WriteFault::Memory { .. }) => Err(AllocError),
-        Err(WriteFault::AheadOfClock) => Ok(Answer::Refused("AheadOfClock")),
-        Err(WriteFault::NumbersSpent) => Ok(Answer::Refused("NumbersSpent")),
+        Err(WriteFault::AheadOfClock) => Ok(Answer::Refused(AHEAD_OF_CLOCK)),
+        Err(WriteFault::NumbersSpent) => Ok(Answer::Refused(NUMBERS_SPENT)),
     }
 }
 
@@ -107,8 +107,8 @@ fn read_one<A: Cells>(
     last: &mut LastTime,
     line: &[u8],
 ) -> Option<(Hint, SeriesKey, i64, Option<i64>)>
-    ensures { IfSome result (λ said.
-        SaysSamples precision line.now ((said.1, said.2) ∷ []) said.3) }
+    ensures { IfSome result (λ parsed.
+        SaysSamples precision line.now ((parsed.1, parsed.2) ∷ []) parsed.3) }
 {
     let hint = keeper.likely_next();
     let key = keeper.key_at(hint)?.copy().ok()?;
@@ -133,9 +133,9 @@ fn read_next<A: Cells>(
     last: &mut LastTime,
     line: &[u8],
 ) -> Option<(Vec<KeyedValue>, Option<i64>)>
-    ensures samples { IfSome result (λ said.
-        SaysSamples precision line.now (map keyed_value said.0.items) said.1) }
-    ensures fields_fit { IfSome result (λ said. length said.0.items ≤ MAX_FIELDS) }
+    ensures samples { IfSome result (λ parsed.
+        SaysSamples precision line.now (map keyed_value parsed.0.items) parsed.1) }
+    ensures fields_fit { IfSome result (λ parsed. length parsed.0.items ≤ MAX_FIELDS) }
 {
     let mut at = keeper.likely_next();
     let key = keeper.key_at(at)?;

@@ -2,7 +2,7 @@
 
 ghost use Rattle.std.specs.Prelude.{◌≡◌, ◌≢◌, ℕ, ◌+◌, ◌*◌, ◌<◌, ◌≤◌, ◌^◌, ℤ, true, List, [], ◌++◌, length, OnOk, OnErr};
 ghost use Rattle.rr_text.specs.declared.limits.TheConstants.{MAX_FIELDS};
-ghost use Rattle.rr_node.specs.declared.lines.TheConstants.{PIECE};
+ghost use Rattle.rr_feed.specs.declared.piece.TheConstants.{PIECE};
 ghost use Rattle.rr_host.specs.Clock.{HasGiven};
 ghost use Rattle.rr_io.specs.Stream.{Writes};
 ghost use Rattle.rr_io.specs.Counted.{is_flushed};
@@ -16,11 +16,11 @@ use crate::rules::{LINES_TO_PUBLISH, Rules};
 use rr_archive::Cells;
 use rr_desk::Keeper;
 use rr_feed::Feed;
-use rr_fetch::push_refusal;
 use rr_host::Clock;
 use rr_io::Counted;
 use rr_io::stream::{WriteFailed, flush, write_all};
 use rr_line::LastTime;
+use rr_text::refusal::push_refusal;
 use std::alloc::{AllocError, Global};
 use std::io::Write;
 use std::sync::Wait;

@@ -10,8 +10,7 @@
 //!
 //! [`serve_node`] keeps rounds on one thread ([`keep_round`]) and serves each [`Seat`] on another.
 //! What is handed in stands behind small traits, each seen as the list of its calls: [`Visits`], a
-//! [`Dial`], a [`Halt`] and a [`Clock`] of [`rr_host`], and a [`Shelf`], which takes snapshots (over
-//! memory [`PreparedShelf`]).
+//! [`Dial`], a [`Halt`] and a [`Clock`] of [`rr_host`], and a [`Shelf`], which takes snapshots.
 //!
 //! In `specs/` what lines make of a keeper, and what is answered, is a function of them and the
 //! clock's moments (`specs/Lines.antt`). The answer to a fetch is a function of the cells that the
@@ -28,7 +27,6 @@ mod gates;
 mod lines;
 mod node;
 mod peers;
-mod prepared_shelf;
 mod pull;
 mod reader;
 mod report;
@@ -45,16 +43,13 @@ pub use fault::NodeFault;
 pub use gates::OpenGate;
 pub use lines::{serve_lines, serve_lines_within};
 pub use node::{Seats, serve_node};
-pub use prepared_shelf::{PreparedOpening, PreparedShelf, ShelfNote};
 pub use pull::pull_peer;
 pub use reader::serve_reader;
 pub use report::Report;
 pub use round::keep_round;
 pub use rounds::keep_or_halt;
 pub use rr_config::{Config, ConfigFault};
-pub use rr_host::{
-    Clock, Dial, Halt, Moments, Prepared, PreparedDial, PreparedPeer, Visit, Visits,
-};
+pub use rr_host::{Clock, Dial, Halt, Visit, Visits};
 pub use seat::{Seat, serve_seat};
 pub use shelf::{Opening, Shelf};
 pub use tally::Tally;

@@ -11,6 +11,7 @@ use crate::report::Report;
 use crate::rules::Rules;
 use rr_archive::Cells;
 use rr_desk::Keeper;
+use rr_feed::PIECE;
 use rr_host::Clock;
 use rr_io::Counted;
 use rr_io::stream::read_once;
@@ -19,11 +20,6 @@ use rr_text::limits::MAX_READS;
 use std::alloc::Global;
 use std::io::{Read, Write};
 use std::sync::Wait;
-
-/// How many bytes a read asks for.
-pub(crate) const PIECE: usize = 65_536;
-
-const _: () = prove!(PIECE == 65_536);
 
 /// Hands the lines that `input` still has to a keeper, answers to `output`, and reports what became
 /// of them.
@@ -35,9 +31,9 @@ const _: () = prove!(PIECE == 65_536);
 /// `AheadOfClock` or `NumbersSpent`. After each 1,000 lines and at the end all is published; then
 /// `points P samples S refused R` is written.
 ///
-/// However a call ends, what was put stays, published or pending, and what is written is a front of
-/// the whole answer. The cost is that of reading and writing each line; a piece of the input, one
-/// line and the answers to the lines of that piece are held.
+/// However a call ends, what was put stays, published or pending, and what is written is a prefix
+/// of the whole answer. The cost is that of reading and writing each line; a piece of the input,
+/// one line and the answers to the lines of that piece are held.
 pub fn serve_lines<A: Cells, R: Read, W: Write, C: Clock, T: Wait>(
     alloc: Global,
     input: &mut Counted<R>,

@@ -4,7 +4,7 @@ ghost use Rattle.std.specs.Prelude.{◌≡◌, ◌≢◌, IfOk, IfSome, List, On
 ghost use Rattle.std.specs.String.{string_bytes};
 ghost use Rattle.rr_host.specs.Calls.{DialCall, Grows};
 ghost use Rattle.rr_node.specs.Shelf.{ShelfCall};
-ghost use Rattle.rr_node.specs.Peers.{EndsPull, EndsPulls, fault_in, told_of_peer};
+ghost use Rattle.rr_node.specs.Peers.{EndsPull, EndsPulls, fault_in, reported_of_peer};
 
 use crate::fault::NodeFault;
 use crate::pull::pull_peer;
@@ -53,7 +53,7 @@ fn skipped(pulled: Result<(), NodeFault>) -> Result<Option<NodeFault>, AllocErro
 /// Tells the shelf of a peer that is done with: whether it has cells of the keeper's own origin,
 /// and its fault.
 fn tell<S: Shelf>(shelf: &mut S, number: usize, has_own: bool, fault: Option<NodeFault>)
-    ensures { Grows (S.calls shelf.old) (S.calls shelf.new) (told_of_peer number has_own fault) }
+    ensures { Grows (S.calls shelf.old) (S.calls shelf.new) (reported_of_peer number has_own fault) }
 {
     if has_own {
         shelf.own_origin(number);
@@ -74,11 +74,11 @@ pub(crate) fn pull_peers<A: Cells, D: Dial, S: Shelf, T: Wait>(
     keeper: &mut Keeper<A>,
     rt: &T,
 ) -> Result<(), AllocError>
-    ensures { (dialed : List DialCall) × (told : List ShelfCall)
+    ensures { (dialed : List DialCall) × (reported : List ShelfCall)
         × Grows (D.calls dial.old) (D.calls dial.new) dialed
-        × Grows (S.calls shelf.old) (S.calls shelf.new) told
+        × Grows (S.calls shelf.old) (S.calls shelf.new) reported
         × EndsPulls (is_ok result) 1 (map string_bytes peers.now) keeper.old keeper.new dialed
-        told }
+        reported }
 {
     for (place, address) in peers.iter().enumerate() {
         let next = keeper.next_number();

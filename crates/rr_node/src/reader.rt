@@ -8,23 +8,20 @@ ghost use Rattle.rr_feed.specs.Feed.{items_left};
 ghost use Rattle.rr_desk.specs.ReaderState.{HasSeenMore};
 ghost use Rattle.rr_node.specs.Answering.{HasWritten, HasWrittenSome};
 ghost use Rattle.rr_node.specs.Blame.{ReadsFirst, ReadsWithin, StaysFlushed, WritesOut};
-ghost use Rattle.rr_node.specs.Fault.{IsOfLines, IsOfReader, IsOfReading, is_of_session};
+ghost use Rattle.rr_node.specs.Fault.{IsOfLines, IsOfReader, IsInputFault, is_of_session};
 ghost use Rattle.rr_node.specs.Fetches.{sight, is_pull, GivesSession, HasAnswered, HasAnsweredSome, HasAnsweredTaken, IsServed};
 
 use crate::answering::next_answer;
 use crate::fault::NodeFault;
 use rr_archive::Cells;
 use rr_desk::{Gate, Reader};
-use rr_feed::{Feed, FeedFault};
+use rr_feed::{Feed, FeedFault, PIECE};
 use rr_gossip::{GossipFault, give_after};
 use rr_io::Counted;
 use rr_io::stream::{flush, read_once, write_all};
 use rr_text::limits::MAX_READS;
 use std::alloc::{AllocError, Global};
 use std::io::{Read, Write};
-
-/// How many bytes a read asks for.
-const PIECE: usize = 65_536;
 
 /// The first byte of an input, none at its end, and how many reads it took.
 fn read_first<R: Read>(input: &mut Counted<R>) -> Result<(Option<u8>, u32), NodeFault>
@@ -91,13 +88,13 @@ fn answer_lines<A: Cells, R: Read, W: Write, G: Gate>(
     ensures part_written { OnErr result (IfSome (R.remaining (inner_of input.old)) (λ rest.
         HasAnsweredSome (first ∷ rest) (sight reader.old (G.calls gate.old)) reader.new
         (W.contents (inner_of output.old)) (W.contents (inner_of output.new)))) }
-    ensures at_once { IfErr result (λ fault. IsOfReading fault
+    ensures at_once { IfErr result (λ fault. IsInputFault fault
         → HasAnsweredTaken (first ∷ []) (R.remaining (inner_of input.old))
         (R.remaining (inner_of input.new)) (sight reader.old (G.calls gate.old))
         (sight reader.new (G.calls gate.new))
         (W.contents (inner_of output.old)) (W.contents (inner_of output.new))) }
     ensures flushed { OnOk result (is_flushed output.new ≡ true) }
-    ensures stays_flushed { IfErr result (λ fault. IsOfReading fault
+    ensures stays_flushed { IfErr result (λ fault. IsInputFault fault
         → is_flushed output.new ≡ true) }
     ensures seen { HasSeenMore reader.old reader.new }
     ensures reads { ReadsWithin reads input.old input.new result }
@@ -149,7 +146,7 @@ fn give_session<A: Cells, R: Read, W: Write>(
 /// on before more is read.
 ///
 /// The connection ends as `ReadFailed`, as `WriteFailed`, as `TooManyReads` after 4,294,967,295
-/// reads that did not reach the end, and as `Memory`; a front of the answers is then written. The
+/// reads that did not reach the end, and as `Memory`; a prefix of the answers is then written. The
 /// cost is that of the fetches, and linear in the bytes; a line, a piece of the input and one
 /// answer are held.
 pub fn serve_reader<A: Cells, R: Read, W: Write, G: Gate>(
@@ -166,7 +163,7 @@ pub fn serve_reader<A: Cells, R: Read, W: Write, G: Gate>(
 
     // What is passed on.
     ensures flushed { OnOk result (StaysFlushed output.old output.new) }
-    ensures stays_flushed { IfErr result (λ fault. IsOfReading fault
+    ensures stays_flushed { IfErr result (λ fault. IsInputFault fault
         → StaysFlushed output.old output.new) }
 
     // Within which reads lines are answered.

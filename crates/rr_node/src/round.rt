@@ -72,8 +72,8 @@ fn take_lines<A: Cells, V: Visits, C: Clock, T: Wait>(
     going_on(served)
 }
 
-/// Tells a shelf that a round's pulls are over: how many samples no archive kept, and how many cells
-/// there are, if it wants that.
+/// Tells a shelf that a round's pulls are over: how many samples no archive kept, and how many
+/// cells there are, if it wants that.
 fn end_pulls<A: Cells, S: Shelf>(shelf: &mut S, keeper: &Keeper<A>)
     ensures { (wanted : Bool) × Grows (S.calls shelf.old) (S.calls shelf.new)
         (end_of_pulls keeper.now wanted) }

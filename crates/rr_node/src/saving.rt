@@ -3,7 +3,7 @@
 ghost use Rattle.std.specs.Prelude.{◌≡◌, List, is_ok};
 ghost use Rattle.rr_host.specs.Calls.{Grows};
 ghost use Rattle.rr_node.specs.Shelf.{ShelfCall};
-ghost use Rattle.rr_node.specs.Saving.{EndsSave, sufficed, told_of_save};
+ghost use Rattle.rr_node.specs.Saving.{EndsSave, sufficed, reported_of_save};
 
 use crate::shelf::{Opening, Shelf};
 use rr_archive::Cells;
@@ -13,7 +13,7 @@ use std::alloc::{AllocError, Global};
 
 /// Tells the shelf that a save failed, unless memory ran out.
 fn tell<S: Shelf>(shelf: &mut S, saved: Result<(), SaveFault>) -> Result<(), AllocError>
-    ensures reported { Grows (S.calls shelf.old) (S.calls shelf.new) (told_of_save saved) }
+    ensures reported { Grows (S.calls shelf.old) (S.calls shelf.new) (reported_of_save saved) }
     ensures memory { is_ok result ≡ sufficed saved }
 {
     match saved {

@@ -2,7 +2,7 @@
 
 ghost use Rattle.std.specs.Prelude.{◌≢◌, ◌≡◌, Err, List, MatchResult};
 ghost use Rattle.rr_node.specs.Fetches.{sight};
-ghost use Rattle.rr_node.specs.Seats.{told_of_schema, visits_of, HasServedSeat, HasVisited};
+ghost use Rattle.rr_node.specs.Seats.{reported_of_schema, visits_of, HasServedSeat, HasVisited};
 ghost use Rattle.rr_host.specs.Visits.{Call, HasCalled};
 
 use crate::fault::NodeFault;
@@ -27,7 +27,7 @@ pub struct Seat<A: Cells, V: Visits, G: Gate> {
 /// Tells visits, before a connection is handed back, that the peer which pulled on it has another
 /// schema.
 fn tell<V: Visits>(visits: &mut V, served: &Result<(), NodeFault>)
-    ensures { HasCalled (V.calls visits.old) (V.calls visits.new) (told_of_schema served.now) }
+    ensures { HasCalled (V.calls visits.old) (V.calls visits.new) (reported_of_schema served.now) }
 {
     if let Err(NodeFault::Session(GossipFault::SchemaDiffers)) = served {
         visits.schema_differs();

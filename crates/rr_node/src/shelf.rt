@@ -48,12 +48,13 @@ pub trait Shelf {
     fn peer_failed(&mut self, number: usize, fault: NodeFault)
         ensures { Grows (calls self.old) (calls self.new) (peer_failed number fault ∷ []) };
 
-    /// Says whether it wants to be told how many cells the node has after this round's pulls, which are
-    /// counted series by series for it.
+    /// Says whether it wants to be told how many cells the node has after this round's pulls, which
+    /// are counted series by series for it.
     fn counts_cells(&mut self) -> bool
         ensures { Grows (calls self.old) (calls self.new) (counts result ∷ []) };
 
-    /// Is told that a round's pulls are over, and how many cells the node then has, if it wants that.
+    /// Is told that a round's pulls are over, and how many cells the node then has, if it wants
+    /// that.
     fn pulls_ended(&mut self, cells: Option<usize>)
         ensures { Grows (calls self.old) (calls self.new) (pulled cells ∷ []) };
 

@@ -38,12 +38,12 @@ use Rattle.rr_gossip.specs.Pages.{AreLeft}
 use Rattle.rr_gossip.specs.Session.{HasGiven, HasHeard, replied_by, sent_by}
 use Rattle.rr_gossip.specs.Stream.{WasRead}
 use Rattle.rr_gossip.specs.Transcript.{reply}
-use Rattle.rr_gossip.proofs.PullLemmas.{gives_hear_the_names, pulls_bring_the_difference, stopped_pulls_take_a_front}
+use Rattle.rr_gossip.proofs.PullLemmas.{gives_hear_the_names, pulls_bring_the_difference, stopped_pulls_take_a_prefix}
 use Rattle.rr_nodes.specs.Nodes.{Node, Nodes, all_held, held_at, after, after_all, taken, where_some}
 use Rattle.rr_nodes.specs.Models.{cell_model, sample_model}
 use Rattle.rr_nodes.specs.Keepers.{IsNode}
 use Rattle.rr_nodes.specs.Pulls.{takes}
-use Rattle.rr_nodes.specs.Sessions.{lacking, names_lacking, now_at, SessionsBringWhatIsLacking, SessionsAreDeeds, PullIsDeeds, PullsAreJoins, CutSessionsBringAFront, SilentSessionsBringNothing, CutPullIsDeeds, CutPullsAreJoins}
+use Rattle.rr_nodes.specs.Sessions.{lacking, names_lacking, now_at, SessionsBringWhatIsLacking, SessionsAreDeeds, PullIsDeeds, PullsAreJoins, CutSessionsBringAPrefix, SilentSessionsBringNothing, CutPullIsDeeds, CutPullsAreJoins}
 use Rattle.rr_nodes.proofs.GivingLemmas.{given_are_there}
 use Rattle.rr_nodes.proofs.KeepersLemmas.{page_is_deeds}
 use Rattle.rr_nodes.specs.Calls.{Desk, Desks, HasBegun, Leave, joins_of_page}
@@ -116,13 +116,13 @@ answer_text : (s : Layout) (names : List NamedVersion) (m : Cells) (es : List Na
 unfolding replied_by
 answer_text s names m es is = ap (λ (l : List NamedCell). concat (reply s l)) is
 
-pub cut_sessions_bring_a_front : CutSessionsBringAFront
-cut_sessions_bring_a_front s had given cells is each cut =
+pub cut_sessions_bring_a_prefix : CutSessionsBringAPrefix
+cut_sessions_bring_a_prefix s had given cells is each cut =
     let es = lacking given had in
     let due = lacking_is_due s had given cut.limit_given cut.last cut.before cut.heard cut.more_heard cut.left_given is
     each cut.is_sent cut.hears in
     let fits : AreLeft (s, es) = subst (λ (l : List NamedCell). AreLeft (s, l)) due cut.hears.fits in
-    stopped_pulls_take_a_front s es cells (length (sent_by s had)) cut.limit cut.came cut.lost cut.more cut.left
+    stopped_pulls_take_a_prefix s es cells (length (sent_by s had)) cut.limit cut.came cut.lost cut.more cut.left
     cut.fault is fits
     (cut.is_answer ∙ ap (λ (l : List ℕ). l ++ cut.more) (answer_text s cut.hears.names given es due)) cut.stopped
 
@@ -138,7 +138,7 @@ silent_sessions_bring_nothing s sent limit left fault cells is stopped =
           true_from_T (is_sorted {X = Contribution} cell_name_cmp []) tt;
     } in
     let none = concat (reply s []) in
-    none_before_none cells (stopped_pulls_take_a_front s [] cells sent limit [] none [] left fault is fits
+    none_before_none cells (stopped_pulls_take_a_prefix s [] cells sent limit [] none [] left fault is fits
     (sym (append-nil none)) stopped)
 
 -- ---- the deeds
@@ -223,24 +223,24 @@ all_before P (x ∷ xs) ys all = (all.0, all_before P xs ys all.1)
 -- each of the first cells that were lacking is there
 lacked_there : (given had : Cells) (cells : List NamedCell) → IsPrefix cells (lacking given had)
     → All (λ (c : Cell). get given (owned_cell c).0 ≡ Some c.contribution) (map to_cell cells)
-lacked_there given had cells front =
+lacked_there given had cells prefix =
     let has : NamedCell → Type 0 = λ e. get given e.0 ≡ Some e.1 in
     let all = recursion_from_All has (lacking given had) (given_are_there given (versions_of had)) in
     All-from_recursion (λ (c : Cell). get given (owned_cell c).0 ≡ Some c.contribution) (map to_cell cells)
-    (all_there given cells (all_before has cells front.0 (subst (AllByRecursion has) (sym front.1) all)))
+    (all_there given cells (all_before has cells prefix.0 (subst (AllByRecursion has) (sym prefix.1) all)))
 
 held_are_of_schema : (k : KeeperState) → IsReplicaState (own_replica k) → All (IsCellOf k.schema) (entries (cells_of k))
 held_are_of_schema k holds = All-from_recursion (IsCellOf k.schema) (entries (cells_of k))
     (each_held (own_replica k) holds)
 
-front_is_deeds : (opening : List Op) (old new : KeeperState) (n : Node Cells) (given : Cells) (cells : List NamedCell)
+prefix_is_deeds : (opening : List Op) (old new : KeeperState) (n : Node Cells) (given : Cells) (cells : List NamedCell)
     → IsNode opening old n → IsPrefix cells (lacking given (cells_of old)) → HasJoined old new cells
     → IsNode opening new (fold (λ o name. taken cell_model old.schema old.origin o given name) n (map (λ e. e.0) cells))
-front_is_deeds opening old new n given cells is front joined =
+prefix_is_deeds opening old new n given cells is prefix joined =
     subst (λ (k : KeeperState). IsNode opening k (fold (λ o name. taken cell_model old.schema old.origin o given name) n
     (map (λ e. e.0) cells))) (sym joined)
     (subst (IsNode opening (with_joined old (map to_cell cells))) (taken_by_name old.schema old.origin given n cells)
-    (page_is_deeds opening old n given (map to_cell cells) (lacked_there given (cells_of old) cells front) is))
+    (page_is_deeds opening old n given (map to_cell cells) (lacked_there given (cells_of old) cells prefix) is))
 
 pub pull_is_deeds : PullIsDeeds
 pull_is_deeds opening old new n given cells holds is session joined =
@@ -248,24 +248,24 @@ pull_is_deeds opening old new n given cells holds is session joined =
     (held_are_of_schema old holds) session in
     subst (λ (es : List NamedCell). IsNode opening new
     (fold (λ o name. taken cell_model old.schema old.origin o given name) n (map (λ e. e.0) es))) all
-    (front_is_deeds opening old new n given cells is (subst (IsPrefix cells) all (prefix_refl cells)) joined)
+    (prefix_is_deeds opening old new n given cells is (subst (IsPrefix cells) all (prefix_refl cells)) joined)
 
 pub cut_pull_is_deeds : CutPullIsDeeds
 cut_pull_is_deeds opening old new n given cells holds is cut joined =
-    front_is_deeds opening old new n given cells is
-    (cut_sessions_bring_a_front old.schema (cells_of old) given cells holds.layout (held_are_of_schema old holds)
+    prefix_is_deeds opening old new n given cells is
+    (cut_sessions_bring_a_prefix old.schema (cells_of old) given cells holds.layout (held_are_of_schema old holds)
     cut) joined
 
 -- ---- several desks
 
-front_is_joins : (s : Layout) (ds : Desks) (origin there : ℕ) (d : Desk) (new : KeeperState) (list : List Op)
+prefix_is_joins : (s : Layout) (ds : Desks) (origin there : ℕ) (d : Desk) (new : KeeperState) (list : List Op)
     (cells : List NamedCell) → get ds origin ≡ Some d → there ≢ origin → HasBegun ds there list
     → IsPrefix cells (lacking (outcome_of s list) (cells_of d.keeper)) → HasJoined d.keeper new cells
     → Leave s ds origin d (joins_of_page origin there list (map to_cell cells)) new
-front_is_joins s ds origin there d new list cells here other begun front joined =
+prefix_is_joins s ds origin there d new list cells here other begun prefix joined =
     subst (Leave s ds origin d (joins_of_page origin there list (map to_cell cells))) (sym joined)
     (pages_are_joins s ds origin there d list (map to_cell cells) here other begun
-    (lacked_there (outcome_of s list) (cells_of d.keeper) cells front))
+    (lacked_there (outcome_of s list) (cells_of d.keeper) cells prefix))
 
 pub pulls_are_joins : PullsAreJoins
 pulls_are_joins s ds origin there d new list cells here other begun holds schema session joined =
@@ -273,13 +273,13 @@ pulls_are_joins s ds origin there d new list cells here other begun holds schema
     (held_are_of_schema d.keeper holds) in
     let all = sessions_bring_what_is_lacking s (cells_of d.keeper) (outcome_of s list) cells
     (subst IsLayout schema holds.layout) each session in
-    front_is_joins s ds origin there d new list cells here other begun (subst (IsPrefix cells) all (prefix_refl cells))
+    prefix_is_joins s ds origin there d new list cells here other begun (subst (IsPrefix cells) all (prefix_refl cells))
     joined
 
 pub cut_pulls_are_joins : CutPullsAreJoins
 cut_pulls_are_joins s ds origin there d new list cells here other begun holds schema cut joined =
     let each = subst (λ (l : Layout). All (IsCellOf l) (entries (cells_of d.keeper))) schema
     (held_are_of_schema d.keeper holds) in
-    front_is_joins s ds origin there d new list cells here other begun
-    (cut_sessions_bring_a_front s (cells_of d.keeper) (outcome_of s list) cells (subst IsLayout schema holds.layout)
+    prefix_is_joins s ds origin there d new list cells here other begun
+    (cut_sessions_bring_a_prefix s (cells_of d.keeper) (outcome_of s list) cells (subst IsLayout schema holds.layout)
     each cut) joined

@@ -87,8 +87,8 @@ pub record IsCutSession (s : Layout) (had given : Cells) (cells : List NamedCell
   pub stopped : HasStoppedPulling s (waiting (length (sent_by s had)) 0 limit) (Some came) left fault cells
 
 -- these are the first of what the side that pulls lacked, in order
-abbrev pub CutSessionsBringAFront : Type 0
-CutSessionsBringAFront =
+abbrev pub CutSessionsBringAPrefix : Type 0
+CutSessionsBringAPrefix =
     (s : Layout) (had given : Cells) (cells : List NamedCell) → IsLayout s → All (IsCellOf s) (entries had)
     → IsCutSession s had given cells
     → IsPrefix cells (lacking given had)

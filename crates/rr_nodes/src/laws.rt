@@ -6,7 +6,7 @@ ghost use Rattle.rr_nodes.specs.Calls.{CallsAnswerFromSamples, WritesArePuts, Pa
 ghost use Rattle.rr_nodes.specs.Giving.{GivenAreThere, UnusedHaveNoCells, SavedIsLoadedElsewhere};
 ghost use Rattle.rr_nodes.specs.Models.{cell_model, sample_model};
 ghost use Rattle.rr_nodes.specs.Pulls.{TakesAreInOrder, PullsBringAll};
-ghost use Rattle.rr_nodes.specs.Sessions.{SessionsBringWhatIsLacking, SessionsAreDeeds, PullIsDeeds, PullsAreJoins, CutSessionsBringAFront, SilentSessionsBringNothing, CutPullIsDeeds, CutPullsAreJoins, SidesHaveASession, SidesHaveACutSession};
+ghost use Rattle.rr_nodes.specs.Sessions.{SessionsBringWhatIsLacking, SessionsAreDeeds, PullIsDeeds, PullsAreJoins, CutSessionsBringAPrefix, SilentSessionsBringNothing, CutPullIsDeeds, CutPullsAreJoins, SidesHaveASession, SidesHaveACutSession};
 
 /// Whatever is done at however many nodes, in whatever order: at each moment each node has the
 /// cells of the marks that reached it, so a fetch is answered by exactly these; and who knows the
@@ -68,7 +68,7 @@ pub fn sessions_are_deeds()
 /// A session that is cut, on either side, brings the first of these cells, in order, and none where
 /// nothing came; what the keeper has joined then are deeds as well.
 pub fn cut_sessions_are_deeds()
-    ensures bytes { CutSessionsBringAFront }
+    ensures bytes { CutSessionsBringAPrefix }
     ensures silent { SilentSessionsBringNothing }
     ensures keeper { CutPullIsDeeds }
     ensures calls { CutPullsAreJoins }

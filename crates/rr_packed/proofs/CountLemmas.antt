@@ -15,14 +15,14 @@ use Rattle.rr_archive.specs.declared.entries.Entries.TheVariants.{Empty}
 use Rattle.rr_archive.specs.Entries.{items_of}
 use Rattle.rr_archive.proofs.LiveWalks.{cells_left, length_step}
 use Rattle.rr_packed.specs.declared.block.Block.{Block}
-use Rattle.rr_packed.specs.declared.reading.Reading.{Reading}
-use Rattle.rr_packed.specs.declared.reading.Source.{Source}
+use Rattle.rr_packed.specs.declared.lone_sample.LoneSample.{LoneSample}
+use Rattle.rr_packed.specs.declared.lone_sample.Source.{Source}
 use Rattle.rr_packed.specs.Sparse.{rank, item_in}
-use Rattle.rr_packed.specs.Readings.{entries_read}
+use Rattle.rr_packed.specs.LoneSamples.{entries_read}
 use Rattle.rr_packed.specs.Blocks.{items_in, entries_in_all}
 use Rattle.rr_packed.proofs.RankLemmas.{rank_more, rank_le, rank_within}
 use Rattle.rr_packed.proofs.SparseLemmas.{item_none, item_found, item_bit, one_of, place_none, place_set}
-use Rattle.rr_packed.proofs.BlockLemmas.{items_by_entries, items_by_reading}
+use Rattle.rr_packed.proofs.BlockLemmas.{items_by_entries, items_by_sample}
 
 no_more : (n : ℕ) → n + 0 ≡ n
 no_more n = omega arith
@@ -84,11 +84,11 @@ left_in_all f z n i (suc d) le =
 abbrev pub len : Entries → ℕ
 len es = length (items_of es)
 
--- the bits of readings whose rows aren't held as entries
+-- the bits of samples whose rows aren't held as entries
 abbrev pub read_alone : Block → ℕ
-read_alone b = bit_and b.readings.mask (bit_not w64 b.rows.mask)
+read_alone b = bit_and b.samples.mask (bit_not w64 b.rows.mask)
 
--- how many entries a number of readings stand for
+-- how many entries a number of samples stand for
 abbrev pub count_read : Option Source → ℕ → ℕ
 count_read None ones = 0
 count_read (Some s) ones = ones
@@ -97,7 +97,7 @@ count_read (Some s) ones = ones
 abbrev held_before : Block → ℕ → ℕ
 held_before b n = sum_by len (take (rank b.rows.mask n) b.rows.items.items)
 
-module _ (b : Block) (rows : b.rows.mask < 2 ^ 64) (readings : b.readings.mask < 2 ^ 64) where
+module _ (b : Block) (rows : b.rows.mask < 2 ^ 64) (samples : b.samples.mask < 2 ^ 64) where
   -- a row that is held as its entries
   one_held : (n : ℕ) → n < 64 → bit_at b.rows.mask n ≡ 1
       → length (items_in b n) + (count_read b.source (rank (read_alone b) n) + held_before b n)
@@ -113,7 +113,7 @@ module _ (b : Block) (rows : b.rows.mask < 2 ^ 64) (readings : b.readings.mask <
       let here = ap length (items_by_entries b n es
       (item_found b.rows.mask xs n at (sym (place_set b.rows.mask n has)) ∙ slice_get-get_or xs at Empty within)) in
       let bit_not_is = bit_at_not w64 b.rows.mask n rows low in
-      let bit = bit_at_and b.readings.mask (bit_not w64 b.rows.mask) n in
+      let bit = bit_at_and b.samples.mask (bit_not w64 b.rows.mask) n in
       let unread : bit_at (read_alone b) n ≡ 0 = omega arith in
       let more = rank_more (read_alone b) n in
       let same : rank (read_alone b) (n + 1) ≡ rank (read_alone b) n = omega arith in
@@ -129,25 +129,25 @@ module _ (b : Block) (rows : b.rows.mask < 2 ^ 64) (readings : b.readings.mask <
       → length (items_in b n) + (count_read b.source (rank (read_alone b) n) + held_before b n)
       ≡ count_read b.source (rank (read_alone b) (n + 1)) + held_before b (n + 1)
   one_unheld n low free =
-      let xs = b.readings.items.items in
-      let here = ap length (items_by_reading b n
+      let xs = b.samples.items.items in
+      let here = ap length (items_by_sample b n
       (item_none b.rows.mask b.rows.items.items n (place_none b.rows.mask n free))) in
-      let counted : count_ones b.readings.mask ≡ vec_len b.readings.items = b.readings.counted in
-      let len_is : vec_len b.readings.items ≡ length xs = search rules in
-      let has = item_bit b.readings.mask xs n
-      (λ set. let inside = rank_within b.readings.mask n readings low set in omega arith) in
-      let small = bit_at-lt b.readings.mask n in
+      let counted : count_ones b.samples.mask ≡ vec_len b.samples.items = b.samples.counted in
+      let len_is : vec_len b.samples.items ≡ length xs = search rules in
+      let has = item_bit b.samples.mask xs n
+      (λ set. let inside = rank_within b.samples.mask n samples low set in omega arith) in
+      let small = bit_at-lt b.samples.mask n in
       let bit_not_is = bit_at_not w64 b.rows.mask n rows low in
-      let bit = bit_at_and b.readings.mask (bit_not w64 b.rows.mask) n in
+      let bit = bit_at_and b.samples.mask (bit_not w64 b.rows.mask) n in
       let more = rank_more (read_alone b) n in
-      let one : rank (read_alone b) (n + 1) ≡ rank (read_alone b) n + one_of (item_in b.readings n) = omega arith in
-      let read = by_source b.source (item_in b.readings n) (rank (read_alone b) n) (rank (read_alone b) (n + 1)) one in
+      let one : rank (read_alone b) (n + 1) ≡ rank (read_alone b) n + one_of (item_in b.samples n) = omega arith in
+      let read = by_source b.source (item_in b.samples n) (rank (read_alone b) n) (rank (read_alone b) (n + 1)) one in
       let next = rank_more b.rows.mask n in
       let same : rank b.rows.mask (n + 1) ≡ rank b.rows.mask n = omega arith in
       let held = ap (λ k. sum_by len (take k b.rows.items.items)) same in
       omega arith
     where
-      by_source : (s : Option Source) (o : Option Reading) (before after : ℕ) → after ≡ before + one_of o
+      by_source : (s : Option Source) (o : Option LoneSample) (before after : ℕ) → after ≡ before + one_of o
           → length (entries_read s o) + count_read s before ≡ count_read s after
       by_source None o before after e = refl
       by_source (Some s) None before after e = omega arith
@@ -179,7 +179,7 @@ module _ (b : Block) (rows : b.rows.mask < 2 ^ 64) (readings : b.readings.mask <
       let held = ap (held_before b) (next_to n m) in
       omega arith
 
-  -- those of the next rows: the readings' bits, and the entries of those that are held as such
+  -- those of the next rows: the samples' bits, and the entries of those that are held as such
   pub in_block : (n m ones : ℕ) → n + m ≤ 64 → rank (read_alone b) n + ones ≡ rank (read_alone b) (n + m)
       → entries_in_all (λ i. items_in b (n + i)) m ≡ count_read b.source ones
       + sum_by len (slice_range b.rows.items.items (rank b.rows.mask n) (rank b.rows.mask (n + m)))

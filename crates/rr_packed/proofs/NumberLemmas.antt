@@ -102,14 +102,14 @@ count_older n [] (Some b) after = sym (ap (λ c. cond c (1 + 0) 0) after)
 count_older n (x ∷ older) newest after =
     ap (λ k. cond (int_lt x.0 n) (1 + k) 0) (count_older n older newest after)
 
-below_front : (n : ℤ) (xs ys : List (ℤ × HeldBlock)) → IsBelow n (xs ++ ys) → IsBelow n xs
-below_front n [] ys h = tt
-below_front n (x ∷ xs) ys h = (h.0, below_front n xs ys h.1)
+below_prefix : (n : ℤ) (xs ys : List (ℤ × HeldBlock)) → IsBelow n (xs ++ ys) → IsBelow n xs
+below_prefix n [] ys h = tt
+below_prefix n (x ∷ xs) ys h = (h.0, below_prefix n xs ys h.1)
 
-pub ascend_front : (xs ys : List (ℤ × HeldBlock)) → Ascend (xs ++ ys) → Ascend xs
+pub ascend_prefix : (xs ys : List (ℤ × HeldBlock)) → Ascend (xs ++ ys) → Ascend xs
 unfolding IsStrictlySortedBy
-ascend_front [] ys up = tt
-ascend_front (x ∷ xs) ys up = (below_front x.0 xs ys up.0, ascend_front xs ys up.1)
+ascend_prefix [] ys up = tt
+ascend_prefix (x ∷ xs) ys up = (below_prefix x.0 xs ys up.0, ascend_prefix xs ys up.1)
 
 pub ascend_rest : (bs : List (ℤ × HeldBlock)) → Ascend bs → Ascend (drop 1 bs)
 unfolding IsStrictlySortedBy
@@ -135,10 +135,10 @@ begins_rest d (a ∷ b ∷ bs) up kept = later a.0 b.0 up.0.0 kept
     later : (m n : ℤ) → int_cmp m n ≡ Less → int_lt m d ≡ false → int_lt n d ≡ false
     later m n less kept = grind (arith, ints)
 
-pub begins_front : (d : ℤ) (xs ys : List (ℤ × HeldBlock)) → begins_before d (keys_of (xs ++ ys)) ≡ false
+pub begins_prefix : (d : ℤ) (xs ys : List (ℤ × HeldBlock)) → begins_before d (keys_of (xs ++ ys)) ≡ false
     → begins_before d (keys_of xs) ≡ false
-begins_front d [] ys kept = refl
-begins_front d (x ∷ xs) ys kept = kept
+begins_prefix d [] ys kept = refl
+begins_prefix d (x ∷ xs) ys kept = kept
 
 -- the smaller of two numbers is up to each
 pub min_left : (d n : ℤ) → int_lt d (int_min d n) ≡ false
@@ -406,7 +406,8 @@ added_at bs new n at b up gap same = record {
   sets = λ q. ap (λ l. block_at l q) (sym same) ∙ lookup-insert (eq_by_cmp_equiv int_cmp_total) n b q bs at
       (none_passes_from_lookup (is_at (int_cmp n)) bs gap.0);
   ascend = subst Ascend (ap (λ i. insert bs i (n, b)) (sym gap.1) ∙ same) (ascend_with n b bs up gap.0);
-  none_before = λ d kept fits. subst (λ l. begins_before d (keys_of l) ≡ false) same (begins_with d n at b bs kept fits);
+  none_before = λ d kept fits. subst (λ l. begins_before d (keys_of l) ≡ false) same
+      (begins_with d n at b bs kept fits);
 }
 
 -- before the newest, and as the newest

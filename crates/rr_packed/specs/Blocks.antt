@@ -16,7 +16,7 @@ use Rattle.rr_packed.specs.declared.held_block.HeldBlock.{HeldBlock}
 use Rattle.rr_packed.specs.declared.held_block.HeldBlock.TheVariants.{Own, Shared}
 use Rattle.rr_packed.specs.Sparse.{item_in, place_at}
 use Rattle.rr_packed.specs.Sparse.{has_room as has_spare}
-use Rattle.rr_packed.specs.Readings.{entries_read}
+use Rattle.rr_packed.specs.LoneSamples.{entries_read}
 use Rattle.rr_packed.specs.Slots.{block_of, row_of}
 
 -- how many entries the first `n` of the rows have in all
@@ -26,13 +26,13 @@ entries_in_all row (suc n) = entries_in_all row n + length (row n)
 
 -- ---- in one block, by the number of a row
 
--- those that a row is held as; if there are none, those that its reading stands for
+-- those that a row is held as; if there are none, those that its sample stands for
 abbrev pub items_held : Option Entries → List Entry → List Entry
 items_held None read = read
 items_held (Some es) read = items_of es
 
 unfoldable pub items_in : Block → ℕ → List Entry
-items_in b number = items_held (item_in b.rows number) (entries_read b.source (item_in b.readings number))
+items_in b number = items_held (item_in b.rows number) (entries_read b.source (item_in b.samples number))
 
 abbrev pub room_held : Option Entries → Bool → ℕ → Bool
 room_held None free origin = free
@@ -42,26 +42,26 @@ room_held (Some es) free origin = has_room es origin
 -- the row has no entry, and a row of either kind more has room
 unfoldable pub has_room_in : Block → ℕ → ℕ → Bool
 has_room_in b number origin =
-    room_held (item_in b.rows number) (is_none (place_at b.readings.mask number)
-    && (has_spare b.readings && has_spare b.rows)) origin
+    room_held (item_in b.rows number) (is_none (place_at b.samples.mask number)
+    && (has_spare b.samples && has_spare b.rows)) origin
 
--- a row is held neither as a reading nor as entries
+-- a row is held neither as a lone sample nor as entries
 pub record IsUnheld (b : Block) (number : ℕ) : Type 0 where
-  pub readings : place_at b.readings.mask number ≡ None
+  pub samples : place_at b.samples.mask number ≡ None
   pub rows : place_at b.rows.mask number ≡ None
 
--- no row changes, and this one is kept as entries and not as a reading, unless memory runs out; where the row had room
+-- no row changes, and this one is kept as entries and not as a lone sample, unless memory runs out; where the row had room
 -- for an origin, memory does not run out, and the room stays
 pub record Unpacks (number : ℕ) (old new : Block) (result : Result (Unit {0}) AllocError) : Type 0 where
   pub same : items_in new ≡ items_in old
-  pub unpacked : OnOk result (place_at new.readings.mask number ≡ None)
+  pub unpacked : OnOk result (place_at new.samples.mask number ≡ None)
   pub room : (origin : ℕ) → IsTrue (has_room_in old number origin) → IsOk result
   pub room_stays : (origin : ℕ) → IsTrue (has_room_in old number origin) → IsTrue (has_room_in new number origin)
 
--- what its readings have in common may have changed, and no row
+-- what its samples have in common may have changed, and no row
 pub record SetsSource (old new : Block) : Type 0 where
   pub same : items_in new ≡ items_in old
-  pub readings : new.readings ≡ old.readings
+  pub samples : new.samples ≡ old.samples
   pub rows : new.rows ≡ old.rows
 
 -- the entries of a row were set, and the others stay

@@ -1,5 +1,5 @@
 pub mod Slots
 pub mod Sparse
-pub mod Readings
+pub mod LoneSamples
 pub mod Blocks
 pub mod PackedCells

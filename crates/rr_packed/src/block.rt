@@ -6,11 +6,11 @@ ghost use Rattle.rr_archive.specs.Entries.{items_of};
 ghost use Rattle.rr_archive.specs.Stored.{ChangesStored, MakesRoom, PassesOver};
 ghost use Rattle.rr_packed.specs.Sparse.{place_at, item_in};
 ghost use Rattle.rr_packed.specs.Sparse.{has_room as has_spare};
-ghost use Rattle.rr_packed.specs.Readings.{entries_of, entries_read};
+ghost use Rattle.rr_packed.specs.LoneSamples.{entries_of, entries_read};
 ghost use Rattle.rr_packed.specs.Blocks.{items_in, has_room_in, entries_in_all, IsRowSet, IsUnheld, SetsSource, Unpacks};
 
+use crate::lone_sample::{LoneSample, Source, are_same_samples, is_same_source};
 use crate::mask::ones_on;
-use crate::reading::{Reading, Source, are_same_readings, is_same_source};
 use crate::row::Row;
 use crate::row_number::{RowNumber, RowRange};
 use crate::sparse::Sparse;
@@ -27,13 +27,13 @@ const _: () = prove!(BLOCK_ROWS == 64);
 
 /// The rows of a block by their numbers in it, from 0 to 63.
 ///
-/// A row of one sample is held as a reading, if its origin and place are those of the block's other
-/// readings; any other as its entries.
+/// A row of one sample is held as a lone sample, if its origin and place are those of the block's
+/// other samples; any other as its entries.
 #[derive(Drop)]
 pub(crate) struct Block {
     alloc: Global,
     source: Option<Source>,
-    readings: Sparse<Reading>,
+    samples: Sparse<LoneSample>,
     rows: Sparse<Entries>,
 }
 
@@ -67,7 +67,7 @@ impl Block {
         Block {
             alloc,
             source: None,
-            readings: Sparse::new(alloc),
+            samples: Sparse::new(alloc),
             rows: Sparse::new(alloc),
         }
     }
@@ -75,15 +75,15 @@ impl Block {
     /// The entry of a row that is held as its sample, if it is held so.
     fn entry_read(&self, number: RowNumber) -> Option<Entry>
         ensures found { IfSome result (λ e. entries_read self.now.source
-            (item_in self.now.readings number.value) ≡ e ∷ []) }
+            (item_in self.now.samples number.value) ≡ e ∷ []) }
         ensures none { result ≡ None → entries_read self.now.source
-            (item_in self.now.readings number.value) ≡ [] }
+            (item_in self.now.samples number.value) ≡ [] }
     {
         let Some(source) = self.source else {
             return None;
         };
-        match self.readings.get(number) {
-            Some(reading) => Some(reading.entry(&source)),
+        match self.samples.get(number) {
+            Some(sample) => Some(sample.entry(&source)),
             None => None,
         }
     }
@@ -107,20 +107,20 @@ impl Block {
         ensures { PassesOver 1 (64 - number.value) (λ i. items_in self.now (number.value + i))
             result }
     {
-        let rest = (self.readings.mask | self.rows.mask) >> number.value >> 1;
+        let rest = (self.samples.mask | self.rows.mask) >> number.value >> 1;
         if rest == 0 {
             return 64 - number.value;
         }
         1 + rest.trailing_zeros()
     }
 
-    /// How many entries some rows have in all. Those that are held as readings are counted at once,
+    /// How many entries some rows have in all. Those that are held as samples are counted at once,
     /// by their bits; others one by one.
     pub(crate) fn entries_on(&self, rows: RowRange) -> usize
         ensures { result
             ≡ entries_in_all (λ i. items_in self.now (rows.first.value + i)) rows.count }
     {
-        let read = self.readings.mask & !self.rows.mask;
+        let read = self.samples.mask & !self.rows.mask;
         let mut count = match self.source {
             Some(_) => ones_on(read, rows),
             None => 0,
@@ -142,7 +142,7 @@ impl Block {
         }
     }
 
-    /// Holds the row of a number as its entries, if it is held as a reading.
+    /// Holds the row of a number as its entries, if it is held as a lone sample.
     fn unpack(&mut self, number: RowNumber) -> Result<(), AllocError>
         ensures { Unpacks number.value self.old self.new result }
     {
@@ -151,7 +151,7 @@ impl Block {
                 self.rows.insert(number, Entries::One(entry))?;
             }
         }
-        self.readings.remove(number);
+        self.samples.remove(number);
         Ok(())
     }
 
@@ -160,7 +160,7 @@ impl Block {
     fn is_free(&self, number: RowNumber) -> bool
         ensures { IsTrue result → IsUnheld self.now number.value }
     {
-        self.readings.lacks(number) && self.rows.lacks(number)
+        self.samples.lacks(number) && self.rows.lacks(number)
     }
 
     /// Makes room for an entry of an origin in a row.
@@ -188,29 +188,29 @@ impl Block {
             (has_room_in self.new number.value origin) (items_in self.old) (items_in self.new)
             result }
     {
-        self.readings.make_room()?;
+        self.samples.make_room()?;
         self.rows.make_room()
     }
 
-    /// What a change makes of a row without an entry, as a reading of this block, if it can be one.
-    /// The first reading of a block decides what the others have in common with it.
+    /// What a change makes of a row without an entry, as a lone sample of this block, if it can be
+    /// one. The first lone sample of a block decides what the others have in common with it.
     #[inline(always)]
-    fn reading_of(&mut self, origin: Origin, change: &Change) -> Option<Reading>
+    fn sample_of(&mut self, origin: Origin, change: &Change) -> Option<LoneSample>
         ensures source { SetsSource self.old self.new }
         ensures read { IfSome result (λ r. entries_read self.new.source (Some r)
             ≡ entry_after [] origin change.now ∷ []) }
     {
-        let Some((source, reading)) = Reading::after(origin, change) else {
+        let Some((source, sample)) = LoneSample::after(origin, change) else {
             return None;
         };
-        if self.readings.items.is_empty() {
+        if self.samples.items.is_empty() {
             self.source = Some(source);
-            return Some(reading);
+            return Some(sample);
         }
         match self.source {
             Some(own) => {
                 if own.origin == source.origin && own.place == source.place {
-                    return Some(reading);
+                    return Some(sample);
                 }
                 None
             }
@@ -219,19 +219,19 @@ impl Block {
     }
 
     /// Adds the entry of a row that has none. Gives back the room that was made for entries, if
-    /// there are none and the readings have filled theirs: so it is asked for a few times a block,
-    /// and not at each reading.
+    /// there are none and the samples have filled theirs: so it is asked for a few times a block,
+    /// and not at each sample.
     #[inline(always)]
     fn add(&mut self, number: RowNumber, origin: Origin, change: &Change) -> Result<(), AllocError>
         requires { IsUnheld self.old number.value }
         ensures { ChangesStored (IsRowSet number.value (entry_after [] origin change.now ∷ []))
-            (has_spare self.old.readings && has_spare self.old.rows) (items_in self.old)
+            (has_spare self.old.samples && has_spare self.old.rows) (items_in self.old)
             (items_in self.new) result }
     {
-        match self.reading_of(origin, change) {
-            Some(reading) => {
-                let added = self.readings.insert(number, reading);
-                if !self.readings.has_room() && self.rows.items.is_empty() {
+        match self.sample_of(origin, change) {
+            Some(sample) => {
+                let added = self.samples.insert(number, sample);
+                if !self.samples.has_room() && self.rows.items.is_empty() {
                     self.rows.shrink();
                 }
                 added
@@ -273,7 +273,7 @@ impl Block {
     pub(crate) fn shrink(&mut self)
         ensures { items_in self.new ≡ items_in self.old }
     {
-        self.readings.shrink();
+        self.samples.shrink();
         self.rows.shrink();
     }
 
@@ -281,10 +281,10 @@ impl Block {
     pub(crate) fn is_same(&self, other: &Block) -> bool
         ensures { IsTrue result → items_in self.now ≡ items_in other.now }
     {
-        self.readings.mask == other.readings.mask
+        self.samples.mask == other.samples.mask
             && self.rows.mask == other.rows.mask
             && is_same_source(&self.source, &other.source)
-            && are_same_readings(&self.readings.items, &other.readings.items)
+            && are_same_samples(&self.samples.items, &other.samples.items)
             && have_same_entries(&self.rows.items, &other.rows.items)
     }
 
@@ -292,7 +292,7 @@ impl Block {
     pub(crate) fn copy(&self, alloc: Global) -> Result<Block, AllocError>
         ensures { IfOk result (λ new. items_in new ≡ items_in self.now) }
     {
-        let readings = Vec::from_slice(alloc, &self.readings.items)?;
+        let samples = Vec::from_slice(alloc, &self.samples.items)?;
         let mut rows = Vec::with_capacity(alloc, self.rows.items.len())?;
         for entries in &self.rows.items {
             rows.push(entries.copy(alloc)?)?;
@@ -300,9 +300,9 @@ impl Block {
         Ok(Block {
             alloc,
             source: self.source,
-            readings: Sparse {
-                mask: self.readings.mask,
-                items: readings,
+            samples: Sparse {
+                mask: self.samples.mask,
+                items: samples,
             },
             rows: Sparse {
                 mask: self.rows.mask,

@@ -25,9 +25,9 @@ use std::collections::VecDeque;
 /// the list of the older ones, and a series with few rows takes no list. The list takes memory for
 /// 1, 2, 4, 8 .. blocks.
 ///
-/// The number that the blocks were last dropped before is kept, or that of an earlier block that was
-/// added since. No block is before it, so that the first of them is looked at again only when a later
-/// one is asked for: once in 64 slots.
+/// The number that the blocks were last dropped before is kept, or that of an earlier block that
+/// was added since. No block is before it, so that the first of them is looked at again only when a
+/// later one is asked for: once in 64 slots.
 #[derive(Drop)]
 pub(crate) struct Blocks {
     pub(crate) alloc: Global,
@@ -60,7 +60,7 @@ impl Blocks {
     ghost use Rattle.rr_archive.specs.Row.{entry_at};
     ghost use Rattle.rr_archive.specs.Changes.{Fits, entry_after};
     ghost use Rattle.rr_archive.specs.Stored.{ChangesStored, MakesRoom};
-    ghost use Rattle.rr_packed.specs.Readings.{entries_of};
+    ghost use Rattle.rr_packed.specs.LoneSamples.{entries_of};
     ghost use Rattle.rr_packed.specs.Blocks.{all_blocks, block_at, count_before, row_at, has_room_at, starts_before, IsPlaceOf, IsGapFor, IsBlockSet, IsSlotSet};
 
     /// No blocks. It takes no memory yet.
@@ -221,8 +221,8 @@ impl Blocks {
         }
     }
 
-    /// The entry that is stored of a slot, if it is one that is held as a reading, and the place of
-    /// its block. The block is looked for at a place first.
+    /// The entry that is stored of a slot, if it is one that is held as a lone sample, and the
+    /// place of its block. The block is looked for at a place first.
     pub(crate) fn lone_entry(&self, slot: i64, near: usize) -> Option<(Entry, usize)>
         ensures { IfSome result (λ found. row_at self.now slot ≡ found.0 ∷ []) }
     {

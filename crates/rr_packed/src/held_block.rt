@@ -3,7 +3,7 @@ ghost use Rattle.std.specs.Prelude.{◌≡◌, ◌+◌, ◌-◌, ℕ, [], IfOk, 
 ghost use Rattle.rr_archive.specs.Row.{entry_at, with_entry};
 ghost use Rattle.rr_archive.specs.Changes.{Fits, entry_after};
 ghost use Rattle.rr_archive.specs.Stored.{ChangesStored, MakesRoom, PassesOver};
-ghost use Rattle.rr_packed.specs.Readings.{entries_of};
+ghost use Rattle.rr_packed.specs.LoneSamples.{entries_of};
 ghost use Rattle.rr_packed.specs.Blocks.{items_in, has_room_in, stored_in, has_room_held, entries_in_all, is_shared, IsRowSet};
 
 use crate::block::Block;
@@ -59,7 +59,8 @@ fn changed_copy(
     Ok(own)
 }
 
-/// A block for others to have too, and whether it is one: without memory for that it stays as it is.
+/// A block for others to have too, and whether it is one: without memory for that it stays as it
+/// is.
 fn shared(alloc: Global, block: Block) -> (HeldBlock, bool)
     ensures same { stored_in result.0 ≡ items_in block }
     ensures shared { result.1 ≡ is_shared result.0 }
@@ -168,8 +169,8 @@ impl HeldBlock {
         }
     }
 
-    /// Makes a block of this archive alone ready to be shared, in no more memory than its lists need.
-    /// Answers whether it did; it doesn't where there is no memory for it.
+    /// Makes a block of this archive alone ready to be shared, in no more memory than its lists
+    /// need. Answers whether it did; it doesn't where there is no memory for it.
     pub(crate) fn finish(&mut self, alloc: Global) -> bool
         ensures same { stored_in self.new ≡ stored_in self.old }
         ensures shared { IsTrue result → IsTrue (is_shared self.new) }

@@ -6,14 +6,14 @@
 //! nothing.
 //!
 //! ```text
-//! a slot ── its block's number ──> a block ── a bit of its masks ──> a reading, or the entries
+//! a slot ── its block's number ──> a block ── a bit of its masks ──> a sample, or the entries
 //! ```
 //!
-//! A row of a single sample is held as that sample, a [`Reading`](reading::Reading), if its origin
-//! and its place are those of the block's other readings. A reading stands for the contribution
-//! that `Contribution::first` makes of the sample. Any other row is held as its entries. What is
-//! stored of a slot is one function (`specs/Blocks.antt`), and the cells are what it gives of the
-//! live slots, in order.
+//! A row of a single sample is held as that sample, a [`LoneSample`](lone_sample::LoneSample), if
+//! its origin and its place are those of the block's other lone samples. A lone sample stands for
+//! the contribution that `Contribution::first` makes of the sample. Any other row is held as its
+//! entries. What is stored of a slot is one function (`specs/Blocks.antt`), and the cells are what
+//! it gives of the live slots, in order.
 //!
 //! A block is its archive's own, or shared with others ([`HeldBlock`](held_block::HeldBlock)): an
 //! archive makes its finished blocks ready, and another takes them in place of its own where both
@@ -23,9 +23,9 @@
 mod block;
 mod blocks;
 mod held_block;
+mod lone_sample;
 mod mask;
 mod packed_archive;
-mod reading;
 mod row;
 mod row_number;
 mod sharing;

@@ -19,8 +19,8 @@ use std::alloc::{AllocError, Global};
 /// The cells of one archive of one series, packed: 24 bytes for a row of one sample, and none for a
 /// row that no sample came to. 64 rows that follow one another are a block, which takes 88 bytes
 /// beside them. The newest block is held in place: a series with few rows takes no list of blocks.
-/// That of the older ones takes memory for 1, 2, 4, 8 .. blocks, that of a block's rows for 1, 4, 16,
-/// 64.
+/// That of the older ones takes memory for 1, 2, 4, 8 .. blocks, that of a block's rows for 1, 4,
+/// 16, 64.
 ///
 /// `ready`, `put` and `join_cell` find the newest block in one step, and another in a time that is
 /// logarithmic in the blocks; they are linear in the entries of the row, in the rows of its block

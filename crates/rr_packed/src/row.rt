@@ -1,6 +1,6 @@
 //! The entries of a row, however it is held.
 ghost use Rattle.std.specs.Prelude.{◌≡◌};
-ghost use Rattle.rr_packed.specs.Readings.{entries_of};
+ghost use Rattle.rr_packed.specs.LoneSamples.{entries_of};
 
 use rr_archive::Entry;
 use std::slice;

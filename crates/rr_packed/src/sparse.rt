@@ -103,8 +103,8 @@ impl<T: Drop> Sparse<T> {
         self.items.len() < self.items.capacity()
     }
 
-    /// Makes room for one item more. The list takes memory for 1, 4, 16, 64 items, since most series
-    /// have few rows.
+    /// Makes room for one item more. The list takes memory for 1, 4, 16, 64 items, since most
+    /// series have few rows.
     #[inline(always)]
     pub(crate) fn make_room(&mut self) -> Result<(), AllocError>
         ensures mask { self.new.mask ≡ self.old.mask }

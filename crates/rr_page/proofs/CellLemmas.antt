@@ -27,11 +27,11 @@ use Rattle.rr_cells.specs.CellBounds.{NamedCell, IsCellOf}
 use Rattle.rr_page.specs.CellText.{signed_bytes, sums_text, values_text, name_text, cell_text}
 use Rattle.rr_page.specs.Laws.{AreBytes, CellsAreTheirText}
 use Rattle.rr_text.specs.Results.{◌>>=◌, unless}
-use Rattle.rr_page.specs.Reading.{front_at, number_at, key_at, archive_at, contribution_at, cell_at}
+use Rattle.rr_page.specs.Reading.{prefix_at, number_at, key_at, archive_at, contribution_at, cell_at}
 use Rattle.rr_contrib.specs.Validity.{is_valid}
 use Rattle.rr_contrib.proofs.ValidityLemmas.{Decides-is_valid}
 use Rattle.rr_page.proofs.NumberLemmas.{IsWide, wide8, wide16, wide64, wide128}
-use Rattle.rr_page.proofs.FieldLemmas.{not_false, and_then, bind_ok, unless_ok, ok_is, Takes, Takes-then, front_takes, front_again, number_takes, number_again, signed_again, with_number, with_signed, with_ok, step}
+use Rattle.rr_page.proofs.FieldLemmas.{not_false, and_then, bind_ok, unless_ok, ok_is, Takes, Takes-then, prefix_takes, prefix_again, number_takes, number_again, signed_again, with_number, with_signed, with_ok, step}
 
 mask_wide : (v : Version) → IsWide (mask_width v)
 mask_wide One = wide64
@@ -47,13 +47,13 @@ pub key_takes : (bytes key rest : List ℕ) → AreBytes bytes → key_at bytes 
 unfolding key_at
 key_takes bytes key rest fits e =
     let a = bind_ok (number_at w16 bytes) (λ len. unless BadKey ((len.0 == 0) || nat_lt MAX_KEY_TEXT len.0)
-    (front_at len.0 len.1) >>= λ text. unless BadKey (not (is_key_text text.0)) (Ok text)) (key, rest) e in
-    let b = bind_ok (unless BadKey ((a.0.0 == 0) || nat_lt MAX_KEY_TEXT a.0.0) (front_at a.0.0 a.0.1))
+    (prefix_at len.0 len.1) >>= λ text. unless BadKey (not (is_key_text text.0)) (Ok text)) (key, rest) e in
+    let b = bind_ok (unless BadKey ((a.0.0 == 0) || nat_lt MAX_KEY_TEXT a.0.0) (prefix_at a.0.0 a.0.1))
     (λ text. unless BadKey (not (is_key_text text.0)) (Ok text)) (key, rest) a.2 in
-    let g = unless_ok BadKey ((a.0.0 == 0) || nat_lt MAX_KEY_TEXT a.0.0) (front_at a.0.0 a.0.1) b.0 b.1 in
+    let g = unless_ok BadKey ((a.0.0 == 0) || nat_lt MAX_KEY_TEXT a.0.0) (prefix_at a.0.0 a.0.1) b.0 b.1 in
     let h = unless_ok BadKey (not (is_key_text b.0.0)) (Ok b.0) (key, rest) b.2 in
     let t0 = number_takes w16 wide16 bytes a.0.0 a.0.1 fits a.1 in
-    let t1 = front_takes a.0.0 a.0.1 b.0.0 b.0.1 t0.0.rest_fits g.1 in
+    let t1 = prefix_takes a.0.0 a.0.1 b.0.0 b.0.1 t0.0.rest_fits g.1 in
     let both : Takes bytes (to_be_bytes w16 a.0.0 ++ b.0.0) b.0.1 =
     Takes-then bytes (to_be_bytes w16 a.0.0) a.0.1 b.0.0 b.0.1 t0.0 t1.0 in
     let whole : Takes bytes (key_field b.0.0) b.0.1 =
@@ -82,13 +82,13 @@ key_again key rest k =
     refl in
     ap key_at (append_assoc (to_be_bytes w16 (length key)) key rest)
     ∙ ap (λ (r : Result (ℕ × List ℕ) PageFault). r >>= λ (n : ℕ × List ℕ). unless BadKey
-    ((n.0 == 0) || nat_lt MAX_KEY_TEXT n.0) (front_at n.0 n.1) >>= λ (text : List ℕ × List ℕ). unless BadKey
+    ((n.0 == 0) || nat_lt MAX_KEY_TEXT n.0) (prefix_at n.0 n.1) >>= λ (text : List ℕ × List ℕ). unless BadKey
     (not (is_key_text text.0)) (Ok text)) (number_again w16 wide16 (length key) (key ++ rest)
     (omega (arith, len.1)))
-    ∙ ap (λ (b : Bool). unless BadKey b (front_at (length key) (key ++ rest)) >>= λ (text : List ℕ × List ℕ). unless
+    ∙ ap (λ (b : Bool). unless BadKey b (prefix_at (length key) (key ++ rest)) >>= λ (text : List ℕ × List ℕ). unless
     BadKey (not (is_key_text text.0)) (Ok text)) fits
     ∙ ap (λ (r : Result (List ℕ × List ℕ) PageFault). r >>= λ (text : List ℕ × List ℕ). unless BadKey
-    (not (is_key_text text.0)) (Ok text)) (front_again (length key) key rest refl)
+    (not (is_key_text text.0)) (Ok text)) (prefix_again (length key) key rest refl)
     ∙ ap (λ (b : Bool). unless BadKey (not b) (Ok (key, rest))) ((Decides-is_key_text key).1 k)
 
 -- ---- the archive

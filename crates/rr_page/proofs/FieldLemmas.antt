@@ -13,7 +13,7 @@ use Rattle.rr_page.specs.declared.fault.PageFault.TheVariants.{Short}
 use Rattle.rr_page.specs.CellText.{signed_bytes}
 use Rattle.rr_page.specs.Laws.{AreBytes}
 use Rattle.rr_text.specs.Results.{◌>>=◌, unless}
-use Rattle.rr_page.specs.Reading.{front_at, number_at, signed_at}
+use Rattle.rr_page.specs.Reading.{prefix_at, number_at, signed_at}
 use Rattle.rr_page.proofs.NumberLemmas.{IsWide}
 
 pub AreBytes-drop : (n : ℕ) (bytes : List ℕ) → AreBytes bytes → AreBytes (drop n bytes)
@@ -47,7 +47,7 @@ done x = Ok x
 pub ok_is : {A : Type 0} (x y : A) → done x ≡ done y → x ≡ y
 ok_is x y e = cc
 
--- what a reader took from the front
+-- what a reader took from the prefix
 pub record Takes (bytes text rest : List ℕ) : Type 0 where
   pub parts : bytes ≡ text ++ rest
   pub rest_fits : AreBytes rest
@@ -62,11 +62,11 @@ Takes-then a x b y c p q = record {
 pub and_then : {a x b y c : List ℕ} → Takes a x b → Takes b y c → Takes a (x ++ y) c
 and_then {a = a} {x = x} {b = b} {y = y} {c = c} p q = Takes-then a x b y c p q
 
-pub front_takes : (len : ℕ) (bytes front rest : List ℕ) → AreBytes bytes → front_at len bytes ≡ Ok (front, rest)
-    → Takes bytes front rest × (length front ≡ len) × AreBytes front
-front_takes len bytes front rest fits e =
-    let g = unless_ok Short (nat_lt (length bytes) len) (Ok (take len bytes, drop len bytes)) (front, rest) e in
-    let is = ok_is (take len bytes, drop len bytes) (front, rest) g.1 in
+pub prefix_takes : (len : ℕ) (bytes prefix rest : List ℕ) → AreBytes bytes → prefix_at len bytes ≡ Ok (prefix, rest)
+    → Takes bytes prefix rest × (length prefix ≡ len) × AreBytes prefix
+prefix_takes len bytes prefix rest fits e =
+    let g = unless_ok Short (nat_lt (length bytes) len) (Ok (take len bytes, drop len bytes)) (prefix, rest) e in
+    let is = ok_is (take len bytes, drop len bytes) (prefix, rest) g.1 in
     let long : len ≤ length bytes = ltb-false _ _ g.0 in
     subst (λ (p : List ℕ × List ℕ). Takes bytes p.0 p.1 × (length p.0 ≡ len) × AreBytes p.0) is (
       record { parts = sym (take-append-drop len bytes); rest_fits = AreBytes-drop len bytes fits },
@@ -74,18 +74,19 @@ front_takes len bytes front rest fits e =
       AreBytes-take len bytes fits,
     )
 
-pub front_again : (len : ℕ) (front rest : List ℕ) → length front ≡ len → front_at len (front ++ rest) ≡ Ok (front, rest)
-front_again len front rest l =
-    let long : ltb (length (front ++ rest)) len ≡ false = le-ltb _ _ (omega (arith, length-append front rest)) in
-    rw (long, take_at front rest len l, drop_at front rest len l) refl
+pub prefix_again : (len : ℕ) (prefix rest : List ℕ) → length prefix ≡ len
+    → prefix_at len (prefix ++ rest) ≡ Ok (prefix, rest)
+prefix_again len prefix rest l =
+    let long : ltb (length (prefix ++ rest)) len ≡ false = le-ltb _ _ (omega (arith, length-append prefix rest)) in
+    rw (long, take_at prefix rest len l, drop_at prefix rest len l) refl
 
 -- ---- numbers
 
 pub number_takes : (w : Width) (wide : IsWide w) (bytes : List ℕ) (n : ℕ) (rest : List ℕ) → AreBytes bytes
     → number_at w bytes ≡ Ok (n, rest) → Takes bytes (to_be_bytes w n) rest × (n < 2 ^ bits w)
 number_takes w wide bytes n rest fits e =
-    let b = bind_ok (front_at (byte_len w) bytes) (λ field. Ok (from_be_bytes w field.0, field.1)) (n, rest) e in
-    let t = front_takes (byte_len w) bytes b.0.0 b.0.1 fits b.1 in
+    let b = bind_ok (prefix_at (byte_len w) bytes) (λ field. Ok (from_be_bytes w field.0, field.1)) (n, rest) e in
+    let t = prefix_takes (byte_len w) bytes b.0.0 b.0.1 fits b.1 in
     let is = ok_is (from_be_bytes w b.0.0, b.0.1) (n, rest) b.2 in
     subst (λ (p : ℕ × List ℕ). Takes bytes (to_be_bytes w p.0) p.1 × (p.0 < 2 ^ bits w)) is
     (subst (λ (x : List ℕ). Takes bytes x b.0.1) (sym (wide.back b.0.0 t.1 t.2)) t.0, wide.below b.0.0 t.1 t.2)
@@ -94,7 +95,7 @@ pub number_again : (w : Width) (wide : IsWide w) (n : ℕ) (rest : List ℕ) →
     → number_at w (to_be_bytes w n ++ rest) ≡ Ok (n, rest)
 number_again w wide n rest lt =
     ap (λ (r : Result (List ℕ × List ℕ) PageFault). r >>= λ (field : List ℕ × List ℕ). Ok
-    (from_be_bytes w field.0, field.1)) (front_again (byte_len w) (to_be_bytes w n) rest (wide.len n))
+    (from_be_bytes w field.0, field.1)) (prefix_again (byte_len w) (to_be_bytes w n) rest (wide.len n))
     ∙ ap (λ (m : ℕ). Ok (m, rest)) (wide.again n lt)
 
 -- ---- numbers with a sign
@@ -102,9 +103,9 @@ number_again w wide n rest lt =
 pub signed_takes : (w : Width) (wide : IsWide w) (bytes : List ℕ) (z : ℤ) (rest : List ℕ) → AreBytes bytes
     → signed_at w bytes ≡ Ok (z, rest) → Takes bytes (signed_bytes w z) rest × FitsSigned w z
 signed_takes w wide bytes z rest fits e =
-    let b = bind_ok (front_at (byte_len w) bytes) (λ field. Ok (cast_signed w (from_be_bytes w field.0), field.1))
+    let b = bind_ok (prefix_at (byte_len w) bytes) (λ field. Ok (cast_signed w (from_be_bytes w field.0), field.1))
     (z, rest) e in
-    let t = front_takes (byte_len w) bytes b.0.0 b.0.1 fits b.1 in
+    let t = prefix_takes (byte_len w) bytes b.0.0 b.0.1 fits b.1 in
     let is = ok_is (cast_signed w (from_be_bytes w b.0.0), b.0.1) (z, rest) b.2 in
     let low = wide.below b.0.0 t.1 t.2 in
     let same : signed_bytes w (cast_signed w (from_be_bytes w b.0.0)) ≡ b.0.0 =
@@ -118,7 +119,7 @@ signed_again w wide z rest fits =
     let low = Fits-of_z fits in
     ap (λ (r : Result (List ℕ × List ℕ) PageFault). r >>= λ (field : List ℕ × List ℕ). Ok
     (cast_signed w (from_be_bytes w field.0), field.1))
-    (front_again (byte_len w) (signed_bytes w z) rest (wide.len (cast_unsigned w z)))
+    (prefix_again (byte_len w) (signed_bytes w z) rest (wide.len (cast_unsigned w z)))
     ∙ ap (λ (n : ℕ). Ok (cast_signed w n, rest)) (wide.again (cast_unsigned w z) low.fits)
     ∙ ap (λ (x : ℤ). Ok (x, rest)) (to_z-of_z w z fits)
 

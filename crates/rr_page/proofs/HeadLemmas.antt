@@ -18,9 +18,9 @@ use Rattle.rr_page.specs.declared.version.Version.TheVariants.{One, Two}
 use Rattle.rr_page.specs.Laws.{AreBytes}
 use Rattle.rr_page.specs.Page.{magic, head_text}
 use Rattle.rr_page.specs.PageReading.{version_at, start_at, schema_at, is_schema, head_at}
-use Rattle.rr_page.specs.Reading.{front_at, number_at}
+use Rattle.rr_page.specs.Reading.{prefix_at, number_at}
 use Rattle.rr_page.specs.Version.{version_byte, named_version, mask_width, latest, HasMasksFor, has_masks_for}
-use Rattle.rr_page.proofs.FieldLemmas.{not_false, and_then, unless_ok, ok_is, Takes, front_takes, front_again, number_takes, number_again, with_number, with_ok, step}
+use Rattle.rr_page.proofs.FieldLemmas.{not_false, and_then, unless_ok, ok_is, Takes, prefix_takes, prefix_again, number_takes, number_again, with_number, with_ok, step}
 use Rattle.rr_page.proofs.NumberLemmas.{wide8, wide16}
 
 -- ---- versions
@@ -94,15 +94,15 @@ start_takes : (bytes : List ℕ) (v : Version) (rest : List ℕ) → AreBytes by
     → Takes bytes (magic ++ (version_byte v ∷ [])) rest
 unfolding start_at
 start_takes bytes v rest fits e =
-    with_ok (front_at 4 bytes) _ (v, rest) e (λ start i e0.
-    let t = front_takes 4 bytes start.0 start.1 fits i in
+    with_ok (prefix_at 4 bytes) _ (v, rest) e (λ start i e0.
+    let t = prefix_takes 4 bytes start.0 start.1 fits i in
     let g = unless_ok BadMagic (not (pointwise nat_eq start.0 magic)) (version_at start.1) (v, rest) e0 in
     let same = (bytes_decides start.0 magic).0 (not_false (pointwise nat_eq start.0 magic) g.0) in
     and_then (subst (λ (l : List ℕ). Takes bytes l start.1) same t.0) (version_takes start.1 v rest t.0.rest_fits g.1))
 
 pub start_again : (v : Version) (rest : List ℕ) → start_at (magic ++ (version_byte v ∷ rest)) ≡ Ok (v, rest)
 unfolding start_at
-start_again v rest = step _ (front_again 4 magic (version_byte v ∷ rest) refl) ∙ version_again v rest
+start_again v rest = step _ (prefix_again 4 magic (version_byte v ∷ rest) refl) ∙ version_again v rest
 
 pub head_takes : (s : Layout) (bytes : List ℕ) (v : Version) (n : ℕ) (rest : List ℕ) → AreBytes bytes
     → head_at s bytes ≡ Ok ((v, n), rest) → Takes bytes (head_text v s n) rest × (n ≤ MAX_PAGE_CELLS) × HasMasksFor v s
@@ -110,7 +110,7 @@ unfolding head_at schema_at head_text
 head_takes s bytes v n rest fits e =
     with_ok (schema_at s bytes) _ ((v, n), rest) e (λ field i0 e0.
     with_ok (start_at bytes) _ field i0 (λ version i1 e1.
-    with_ok (front_at (length (schema_bytes s)) version.1) _ field e1 (λ own i2 e2.
+    with_ok (prefix_at (length (schema_bytes s)) version.1) _ field e1 (λ own i2 e2.
     with_ok (unless SchemaDiffers (not (is_schema field.0.0 s field.0.1)) (number_at w16 field.1)) _ ((v, n), rest) e0
     (λ count i3 e3.
     let is = ok_is ((version.0, own.0), own.1) field e2 in
@@ -120,7 +120,7 @@ head_takes s bytes v n rest fits e =
     let h = unless_ok TooManyCells (nat_lt MAX_PAGE_CELLS count.0) (Ok ((field.0.0, count.0), count.1)) ((v, n), rest)
     e3 in
     let t0 = start_takes bytes version.0 version.1 fits i1 in
-    let t1 = front_takes (length (schema_bytes s)) version.1 own.0 own.1 t0.rest_fits i2 in
+    let t1 = prefix_takes (length (schema_bytes s)) version.1 own.0 own.1 t0.rest_fits i2 in
     let same : own.0 ≡ schema_bytes s = ap (λ (p : (Version × List ℕ) × List ℕ). p.0.1) is
     ∙ (bytes_decides field.0.1 (schema_bytes s)).0 own_schema.1 in
     let left : own.1 ≡ field.1 = ap (λ (p : (Version × List ℕ) × List ℕ). p.1) is in
@@ -145,7 +145,7 @@ head_again s v n rest few wide =
     ap (λ (l : List ℕ). magic ++ (version_byte v ∷ l)) (append_assoc (schema_bytes s) (to_be_bytes w16 n) rest) in
     let field : schema_at s (magic ++ (version_byte v ∷ (schema_bytes s ++ after))) ≡ Ok ((v, schema_bytes s), after) =
     step _ (start_again v (schema_bytes s ++ after))
-    ∙ step _ (front_again (length (schema_bytes s)) (schema_bytes s) after refl) in
+    ∙ step _ (prefix_again (length (schema_bytes s)) (schema_bytes s) after refl) in
     ap (head_at s) parted
     ∙ step _ field
     ∙ ap (λ (b : Bool). unless SchemaDiffers (not b) (number_at w16 after) >>= λ (count : ℕ × List ℕ). unless

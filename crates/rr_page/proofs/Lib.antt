@@ -9,4 +9,4 @@ pub mod CellsLemmas
 pub mod LoopLemmas
 pub mod HeadLemmas
 pub mod PageLemmas
-pub mod FrontLemmas
+pub mod PrefixLemmas

@@ -51,8 +51,8 @@ again (suc k) n =
     ∙ sym whole
     ∙ ap (λ q. n % q) (nat.mul_comm 256 p ∙ sym (nat.pow-suc 256 k))
 
-at_front : (k high b low : ℕ) → b < 256 → low < 256 ^ k → byte_at k ((high * 256 + b) * 256 ^ k + low) ≡ b
-at_front k high b low small fits =
+at_prefix : (k high b low : ℕ) → b < 256 → low < 256 ^ k → byte_at k ((high * 256 + b) * 256 ^ k + low) ≡ b
+at_prefix k high b low small fits =
     byte_is k ((high * 256 + b) * 256 ^ k + low)
     ∙ ap (λ m. m % 256) (div-mul-add (high * 256 + b) (256 ^ k) low fits)
     ∙ mod-mul-add high 256 b small
@@ -68,7 +68,7 @@ back (b ∷ bs) high h =
     ∙ sym (nat.add_assoc (high * 256 * p) (b * p) (value bs))
     ∙ ap (λ q. q + value bs) (sym (nat.add-mul (high * 256) b p)) in
     let first : byte_at (length bs) (high * 256 ^ suc (length bs) + (b * p + value bs)) ≡ b =
-    ap (byte_at (length bs)) same ∙ at_front (length bs) high b (value bs) (head b bs h) (below bs rest) in
+    ap (byte_at (length bs)) same ∙ at_prefix (length bs) high b (value bs) (head b bs h) (below bs rest) in
     let others : bytes_high_first (length bs) (high * 256 ^ suc (length bs) + (b * p + value bs)) ≡ bs =
     ap (bytes_high_first (length bs)) same ∙ back bs (high * 256 + b) rest in
     λ i. first i ∷ others i

@@ -21,7 +21,7 @@ use Rattle.rr_page.specs.declared.version.Version.{Version}
 use Rattle.rr_page.specs.CellText.{cell_text}
 use Rattle.rr_page.specs.Laws.{AreBytes, PagesAreTheirText, NoPageBeginsAnother}
 use Rattle.rr_page.specs.Page.{IsPage, IsPageText, magic, head_text, page_text}
-use Rattle.rr_page.specs.PageReading.{start_at, head_at, front_page_at, page_at}
+use Rattle.rr_page.specs.PageReading.{start_at, head_at, prefix_page_at, page_at}
 use Rattle.rr_page.specs.Version.{version_byte, HasMasksFor}
 use Rattle.rr_page.proofs.CellsLemmas.{cells_take, cells_again}
 use Rattle.rr_page.proofs.FieldLemmas.{not_false, and_then, unless_ok, ok_is, Takes, with_ok, step}
@@ -34,10 +34,10 @@ pub record IsRead (s : Layout) (bytes : List ℕ) (es : List NamedCell) (rest : 
   pub wide : HasMasksFor version s
   pub takes : Takes bytes (page_text version s es) rest
 
-front_page_takes : (s : Layout) (bytes : List ℕ) (x : List NamedCell × List ℕ) → AreBytes bytes
-    → front_page_at s bytes ≡ Ok x → IsRead s bytes x.0 x.1
-unfolding front_page_at page_text
-front_page_takes s bytes x fits e =
+prefix_page_takes : (s : Layout) (bytes : List ℕ) (x : List NamedCell × List ℕ) → AreBytes bytes
+    → prefix_page_at s bytes ≡ Ok x → IsRead s bytes x.0 x.1
+unfolding prefix_page_at page_text
+prefix_page_takes s bytes x fits e =
     with_ok (head_at s bytes) _ x e (λ head i0 e0.
     let t0 = head_takes s bytes head.0.0 head.0.1 head.1 fits i0 in
     let t1 = cells_take head.0.0 s None head.0.1 head.1 x t0.0.rest_fits e0 in
@@ -53,11 +53,11 @@ front_page_takes s bytes x fits e =
       takes = and_then (subst (λ (n : ℕ). Takes bytes (head_text head.0.0 s n) head.1) (sym t1.many) t0.0) t1.takes;
     })
 
-pub front_page_again : (v : Version) (s : Layout) (es : List NamedCell) (rest : List ℕ) → IsLayout s → HasMasksFor v s
-    → IsPage s es → front_page_at s (page_text v s es ++ rest) ≡ Ok (es, rest)
-unfolding front_page_at page_text
-front_page_again v s es rest layout wide page =
-    ap (front_page_at s) (append_assoc (head_text v s (length es)) (flat_map (cell_text v) es) rest)
+pub prefix_page_again : (v : Version) (s : Layout) (es : List NamedCell) (rest : List ℕ) → IsLayout s → HasMasksFor v s
+    → IsPage s es → prefix_page_at s (page_text v s es ++ rest) ≡ Ok (es, rest)
+unfolding prefix_page_at page_text
+prefix_page_again v s es rest layout wide page =
+    ap (prefix_page_at s) (append_assoc (head_text v s (length es)) (flat_map (cell_text v) es) rest)
     ∙ step _ (head_again s v (length es) (flat_map (cell_text v) es ++ rest) page.count_fits wide)
     ∙ cells_again v s None es rest layout wide (recursion_from_All (IsCellOf s) es page.cells)
     (sorted_rising es page.names_ascend)
@@ -66,9 +66,9 @@ pub page_takes : (s : Layout) (bytes : List ℕ) (es : List NamedCell) → AreBy
     → IsPage s es × IsPageText s es bytes
 unfolding page_at
 page_takes s bytes es fits e =
-    with_ok (front_page_at s bytes) _ es e (λ cells i e0.
+    with_ok (prefix_page_at s bytes) _ es e (λ cells i e0.
     let g = unless_ok TrailingBytes (not (length cells.1 == 0)) (Ok cells.0) es e0 in
-    let t = front_page_takes s bytes cells fits i in
+    let t = prefix_page_takes s bytes cells fits i in
     let nothing : cells.1 ≡ [] = nil_from_length cells.1 (eqb-true _ _ (not_false (length cells.1 == 0) g.0)) in
     let whole : bytes ≡ page_text t.version s cells.0 = t.takes.parts
     ∙ ap (λ (l : List ℕ). page_text t.version s cells.0 ++ l) nothing
@@ -81,7 +81,7 @@ pub page_again : (s : Layout) (bytes : List ℕ) (es : List NamedCell) → IsLay
 unfolding page_at
 page_again s bytes es layout page text =
     ap (page_at s) (text.text ∙ sym (append-nil (page_text text.version s es)))
-    ∙ step _ (front_page_again text.version s es [] layout text.wide page)
+    ∙ step _ (prefix_page_again text.version s es [] layout text.wide page)
 
 pub pages_are_their_text : PagesAreTheirText
 pages_are_their_text s bytes es layout fits = (
@@ -111,9 +111,9 @@ no_page_begins_another v w s t es fs x y layout other wide wide_too page second 
     (sym (start_of_page v s es x) ∙ ap start_at e ∙ start_of_page w t fs y) in
     let schemas = bytes_tell s t (tail_text s es v x) (tail_text t fs w y) layout other
     (ap (λ (p : Version × List ℕ). p.1) starts) in
-    let bodies = ok_is (es, x) (fs, y) (sym (front_page_again v s es x layout wide page) ∙ ap (front_page_at s) e
-    ∙ ap (λ (l : Layout). front_page_at l (page_text w t fs ++ y)) schemas.0
-    ∙ front_page_again w t fs y other wide_too second) in (
+    let bodies = ok_is (es, x) (fs, y) (sym (prefix_page_again v s es x layout wide page) ∙ ap (prefix_page_at s) e
+    ∙ ap (λ (l : Layout). prefix_page_at l (page_text w t fs ++ y)) schemas.0
+    ∙ prefix_page_again w t fs y other wide_too second) in (
       ap (λ (p : Version × List ℕ). p.0) starts,
       schemas.0,
       ap (λ (p : List NamedCell × List ℕ). p.0) bodies,

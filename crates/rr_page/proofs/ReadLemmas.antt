@@ -15,20 +15,20 @@ use Rattle.rr_cells.specs.CellBounds.{NamedCell}
 use Rattle.rr_page.specs.declared.fault.PageFault.{PageFault}
 use Rattle.rr_page.specs.declared.fault.PageFault.TheVariants.{BadKey, BadContribution}
 use Rattle.rr_text.specs.Results.{◌>>=◌, unless}
-use Rattle.rr_page.specs.Reading.{front_at, number_at, signed_at, key_at, archive_at, contribution_at, cell_at}
+use Rattle.rr_page.specs.Reading.{prefix_at, number_at, signed_at, key_at, archive_at, contribution_at, cell_at}
 use Rattle.rr_page.specs.declared.version.Version.{Version}
 
 abbrev keyed : List ℕ × List ℕ → Result (List ℕ × List ℕ) PageFault
 keyed text = unless BadKey (not (is_key_text text.0)) (Ok text)
 
 module _ (bytes : List ℕ) (len : ℕ) (rest text after : List ℕ) (l : number_at w16 bytes ≡ Ok (len, rest))
-    (fits : ((len == 0) || nat_lt MAX_KEY_TEXT len) ≡ false) (f : front_at len rest ≡ Ok (text, after)) where
+    (fits : ((len == 0) || nat_lt MAX_KEY_TEXT len) ≡ false) (f : prefix_at len rest ≡ Ok (text, after)) where
   key_parts : key_at bytes ≡ keyed (text, after)
   unfolding key_at
   key_parts =
-      ap (λ r. r >>= λ (n : ℕ × List ℕ). unless BadKey ((n.0 == 0) || nat_lt MAX_KEY_TEXT n.0) (front_at n.0 n.1) >>=
+      ap (λ r. r >>= λ (n : ℕ × List ℕ). unless BadKey ((n.0 == 0) || nat_lt MAX_KEY_TEXT n.0) (prefix_at n.0 n.1) >>=
       keyed) l
-      ∙ ap (λ b. unless BadKey b (front_at len rest) >>= keyed) fits
+      ∙ ap (λ b. unless BadKey b (prefix_at len rest) >>= keyed) fits
       ∙ ap (λ r. r >>= keyed) f
 
   pub key_read : IsKeyText text → key_at bytes ≡ Ok (text, after)

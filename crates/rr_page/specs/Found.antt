@@ -11,7 +11,7 @@ use Rattle.rr_page.specs.Reading.{cell_at}
 use Rattle.rr_page.specs.PageReading.{page_at}
 use Rattle.rr_page.specs.declared.fault.PageFault.{PageFault}
 use Rattle.rr_page.specs.declared.fault.PageFault.TheVariants.{Short, Memory}
-use Rattle.rr_page.specs.declared.reading.FoundCell.{FoundCell}
+use Rattle.rr_page.specs.declared.cells.FoundCell.{FoundCell}
 
 -- a cell that was found, as a name and what stands there
 abbrev pub found_cell : FoundCell → NamedCell

@@ -37,7 +37,7 @@ NoPageBeginsAnother =
     → (v ≡ w) × (s ≡ t) × (es ≡ fs) × (x ≡ y)
 
 -- the bytes of a page without some at the end are Short
-abbrev pub PageFrontsAreShort : Type 0
-PageFrontsAreShort =
-    (v : Version) (s : Layout) (es : List NamedCell) (front rest : List ℕ) → IsLayout s → HasMasksFor v s → IsPage s es
-    → page_text v s es ≡ front ++ rest → 1 ≤ length rest → page_at s front ≡ Err Short
+abbrev pub PagePrefixesAreShort : Type 0
+PagePrefixesAreShort =
+    (v : Version) (s : Layout) (es : List NamedCell) (prefix rest : List ℕ) → IsLayout s → HasMasksFor v s → IsPage s es
+    → page_text v s es ≡ prefix ++ rest → 1 ≤ length rest → page_at s prefix ≡ Err Short

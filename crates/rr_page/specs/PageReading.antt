@@ -15,7 +15,7 @@ use Rattle.rr_page.specs.declared.fault.PageFault.TheVariants.{BadMagic, BadVers
 use Rattle.rr_page.specs.declared.version.Version.{Version}
 use Rattle.rr_page.specs.Page.{magic}
 use Rattle.rr_page.specs.Version.{named_version, has_masks_for}
-use Rattle.rr_page.specs.Reading.{front_at, number_at, cell_at}
+use Rattle.rr_page.specs.Reading.{prefix_at, number_at, cell_at}
 
 -- ---- what a page has before its cells
 
@@ -29,14 +29,14 @@ version_at bytes = do
 -- the bytes that every page begins with, then its version, and what follows it
 unfoldable pub start_at : List ℕ → Result (Version × List ℕ) PageFault
 start_at bytes = do
-  start ← front_at (length magic) bytes
+  start ← prefix_at (length magic) bytes
   unless BadMagic (not (pointwise nat_eq start.0 magic)) (version_at start.1)
 
 -- the version, as many bytes as the schema has, and what follows them
 unfoldable pub schema_at : Layout → List ℕ → Result ((Version × List ℕ) × List ℕ) PageFault
 schema_at s bytes = do
   version ← start_at bytes
-  field ← front_at (length (schema_bytes s)) version.1
+  field ← prefix_at (length (schema_bytes s)) version.1
   Ok ((version.0, field.0), field.1)
 
 -- whether these bytes are those of a schema for which the version has masks
@@ -71,14 +71,14 @@ cells_at v s before (suc n) bytes = do
 
 -- ---- the whole
 
--- the cells of a page at the front, and what follows it
-unfoldable pub front_page_at : Layout → List ℕ → Result (List NamedCell × List ℕ) PageFault
-front_page_at s bytes = do
+-- the cells of a page at the beginning, and what follows it
+unfoldable pub prefix_page_at : Layout → List ℕ → Result (List NamedCell × List ℕ) PageFault
+prefix_page_at s bytes = do
   head ← head_at s bytes
   cells_at head.0.0 s None head.0.1 head.1
 
 -- the cells of the page that all of the bytes are
 unfoldable pub page_at : Layout → List ℕ → Result (List NamedCell) PageFault
 page_at s bytes = do
-  page ← front_page_at s bytes
+  page ← prefix_page_at s bytes
   unless TrailingBytes (not (length page.1 == 0)) (Ok page.0)

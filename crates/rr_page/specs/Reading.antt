@@ -13,23 +13,23 @@ use Rattle.rr_page.specs.declared.fault.PageFault.TheVariants.{Short, BadKey, Ba
 use Rattle.rr_page.specs.declared.version.Version.{Version}
 use Rattle.rr_page.specs.Version.{mask_width}
 
--- `len` bytes at the front, and what follows them
-abbrev pub front_at : ℕ → List ℕ → Result (List ℕ × List ℕ) PageFault
-front_at len bytes = unless Short (nat_lt (length bytes) len) (Ok (take len bytes, drop len bytes))
+-- `len` bytes at the beginning, and what follows them
+abbrev pub prefix_at : ℕ → List ℕ → Result (List ℕ × List ℕ) PageFault
+prefix_at len bytes = unless Short (nat_lt (length bytes) len) (Ok (take len bytes, drop len bytes))
 
 -- a number of a width, and what follows it
 abbrev pub number_at : Width → List ℕ → Result (ℕ × List ℕ) PageFault
-number_at w bytes = front_at (byte_len w) bytes >>= λ field. Ok (from_be_bytes w field.0, field.1)
+number_at w bytes = prefix_at (byte_len w) bytes >>= λ field. Ok (from_be_bytes w field.0, field.1)
 
 -- a number with a sign, and what follows it
 abbrev pub signed_at : Width → List ℕ → Result (ℤ × List ℕ) PageFault
-signed_at w bytes = front_at (byte_len w) bytes >>= λ field. Ok (cast_signed w (from_be_bytes w field.0), field.1)
+signed_at w bytes = prefix_at (byte_len w) bytes >>= λ field. Ok (cast_signed w (from_be_bytes w field.0), field.1)
 
 -- a length and a key text of it, and what follows
 unfoldable pub key_at : List ℕ → Result (List ℕ × List ℕ) PageFault
 key_at bytes = do
   len ← number_at w16 bytes
-  text ← unless BadKey ((len.0 == 0) || nat_lt MAX_KEY_TEXT len.0) (front_at len.0 len.1)
+  text ← unless BadKey ((len.0 == 0) || nat_lt MAX_KEY_TEXT len.0) (prefix_at len.0 len.1)
   unless BadKey (not (is_key_text text.0)) (Ok text)
 
 -- the number of one of the schema's archives, and what follows it

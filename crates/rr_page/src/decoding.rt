@@ -8,9 +8,9 @@ ghost use Rattle.rr_page.specs.Found.{ReadsPage, Refuses, found_cell};
 ghost use Rattle.rr_cells.specs.CellBounds.{NamedCell, IsCellOf};
 ghost use Rattle.rr_cells.specs.Listing.{owned_cell};
 
+use crate::cells::{FoundCell, find_cell, read_cell_in};
 use crate::fault::PageFault;
 use crate::heading::head_of;
-use crate::reading::{FoundCell, find_cell, read_cell_in};
 use crate::version::Version;
 use rr_cells::Cell;
 use rr_schema::Schema;
@@ -66,7 +66,7 @@ fn cells_of<'a>(
 }
 
 /// The cells of the page that all of the bytes are, each copied as it is read.
-#[tactic(auto, unfolding(crate::specs::PageReading::page_at, crate::specs::PageReading::front_page_at))]
+#[tactic(auto, unfolding(crate::specs::PageReading::page_at, crate::specs::PageReading::prefix_page_at))]
 fn copied_page(alloc: Global, bytes: &[u8], schema: &Schema) -> Result<Vec<Cell>, PageFault>
     ensures { GivesUnless PageFault.Memory (λ cells. map owned_cell cells.items) result
         (page_at schema.now bytes.now) }
@@ -118,7 +118,7 @@ fn after_cells<'a>(
 }
 
 /// Refuses bytes that are no page, as [`decode`] does. No memory is taken.
-#[tactic(auto, unfolding(crate::specs::PageReading::page_at, crate::specs::PageReading::front_page_at))]
+#[tactic(auto, unfolding(crate::specs::PageReading::page_at, crate::specs::PageReading::prefix_page_at))]
 fn check_page(bytes: &[u8], schema: &Schema) -> Result<(), PageFault>
     ensures good { OnOk result (IsOk (page_at schema.now bytes.now)) }
     ensures checks { Refuses result (page_at schema.now bytes.now) }

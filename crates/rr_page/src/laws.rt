@@ -1,5 +1,5 @@
 //! The laws of the bytes of cells and pages, with no work to do: the functions have empty bodies.
-ghost use Rattle.rr_page.specs.Laws.{CellsAreTheirText, PagesAreTheirText, NoPageBeginsAnother, PageFrontsAreShort};
+ghost use Rattle.rr_page.specs.Laws.{CellsAreTheirText, PagesAreTheirText, NoPageBeginsAnother, PagePrefixesAreShort};
 
 /// A cell is read exactly where the bytes begin with the text of a cell of the schema, and what
 /// follows it is left.
@@ -18,6 +18,6 @@ pub fn no_page_begins_another()
 {}
 
 /// The bytes of a page that is cut short are refused as `Short`, wherever it is cut.
-pub fn fronts_are_short()
-    ensures { PageFrontsAreShort }
+pub fn prefixes_are_short()
+    ensures { PagePrefixesAreShort }
 {}

@@ -12,20 +12,20 @@
 //! what was written, and that no page begins another.
 #![tactic(auto)]
 
+mod cells;
 mod decoding;
 mod encoding;
 mod fault;
 pub mod fields;
 mod heading;
 pub mod laws;
-mod reading;
 mod version;
 mod writing;
 
+pub use cells::{archive_of, key_of, read_cell, read_cell_in};
 pub use decoding::{decode, follows};
 pub use encoding::encode;
 pub use fault::PageFault;
 pub use heading::version_of;
-pub use reading::{archive_of, key_of, read_cell, read_cell_in};
 pub use version::{LATEST, Version};
 pub use writing::{FIELDS_LEN, cell_bytes, push_name};

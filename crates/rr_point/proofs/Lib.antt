@@ -1,1 +1,1 @@
-pub mod FrontLemmas
+pub mod PrefixLemmas

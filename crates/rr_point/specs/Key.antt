@@ -8,7 +8,7 @@ use Rattle.rr_key.specs.declared.class.Class.TheVariants.{Measurement, Other}
 use Rattle.rr_key.specs.Making.{Names, series_of, making_fault}
 use Rattle.rr_key.specs.Series as key
 use Rattle.rr_key.specs.Unit.{unescape}
-pub use Rattle.rr_point.specs.Front.{tags_unescaped}
+pub use Rattle.rr_point.specs.Prefix.{tags_unescaped}
 use Rattle.rr_point.specs.Point.{PointView}
 
 -- names that are held, by their bytes

@@ -1,3 +1,3 @@
-pub mod Front
+pub mod Prefix
 pub mod Point
 pub mod Key

@@ -2,7 +2,7 @@
 use Rattle.std.specs.Prelude.{ℕ, ℤ, List, map, Option}
 use Rattle.rr_point.specs.declared.point.Field.{Field}
 use Rattle.rr_point.specs.declared.point.Point.{Point}
-pub use Rattle.rr_point.specs.Front.{tag_view, tags_view}
+pub use Rattle.rr_point.specs.Prefix.{tag_view, tags_view}
 
 -- the samples of one moment: the time is in nanoseconds
 pub record PointView : Type 0 where

@@ -31,9 +31,9 @@ impl<'a> Point<'a> {
         ensures written { OnOk result (text.new.items ≡ key_text (point_view self.now) field.now) }
         ensures grammar { OnOk result (IsKeyText text.new.items) }
     {
-        match self.front {
-            Some(front) if name_len(Class::Other, field) == field.len() => {
-                write_parts(text, front, field)
+        match self.prefix {
+            Some(prefix) if name_len(Class::Other, field) == field.len() => {
+                write_parts(text, prefix, field)
             }
             _ => {
                 let key = self.key_of_names(alloc, field)?;
@@ -60,11 +60,11 @@ impl<'a> Point<'a> {
 }
 
 /// Writes what precedes a field, a space and the field over a text.
-fn write_parts(text: &mut Vec<u8>, front: &[u8], field: &[u8]) -> Result<(), AllocError>
-    ensures { OnOk result (text.new.items ≡ front.now ++ SPACE ∷ field.now) }
+fn write_parts(text: &mut Vec<u8>, prefix: &[u8], field: &[u8]) -> Result<(), AllocError>
+    ensures { OnOk result (text.new.items ≡ prefix.now ++ SPACE ∷ field.now) }
 {
     text.clear();
-    text.extend_from_slice(front)?;
+    text.extend_from_slice(prefix)?;
     text.push(SPACE)?;
     text.extend_from_slice(field)
 }

@@ -2,7 +2,7 @@
 
 ghost use Rattle.std.specs.Prelude.{◌≡◌};
 ghost use Rattle.std.specs.Option.{ForSome};
-ghost use Rattle.rr_point.specs.Front.{front_text, tags_view};
+ghost use Rattle.rr_point.specs.Prefix.{prefix_text, tags_view};
 
 use rr_text::bytes::Keyed;
 use smallvec::SmallVec;
@@ -20,23 +20,23 @@ pub struct Point<'a> {
     /// Nanoseconds since the Unix epoch, if the line says when.
     pub time: Option<i64>,
     /// What precedes the field in each key text, if the line has it as it stands.
-    pub(crate) front: Option<&'a [u8]>,
+    pub(crate) prefix: Option<&'a [u8]>,
 
-    ghost front_of: { ForSome front (λ f. f.now ≡ front_text measurement.now (tags_view tags.items)) },
+    ghost prefix_of: { ForSome prefix (λ f. f.now ≡ prefix_text measurement.now (tags_view tags.items)) },
 }
 
 impl<'a> Point<'a> {
     /// The point of these parts. Where the line has what precedes the field in each key text as it
-    /// stands, `front` is that, and keys are written from it.
+    /// stands, `prefix` is that, and keys are written from it.
     #[inline]
     pub fn new(
         measurement: &'a [u8],
         tags: Tags<'a>,
         fields: Vec<Field<'a>>,
         time: Option<i64>,
-        front: Option<&'a [u8]>,
+        prefix: Option<&'a [u8]>,
     ) -> Point<'a>
-        requires { ForSome front (λ f. f.now ≡ front_text measurement.now (tags_view tags.items)) }
+        requires { ForSome prefix (λ f. f.now ≡ prefix_text measurement.now (tags_view tags.items)) }
         ensures measurement { result.measurement.now ≡ measurement.now }
         ensures tags { result.tags ≡ tags.entry }
         ensures fields { result.fields ≡ fields.entry }
@@ -47,7 +47,7 @@ impl<'a> Point<'a> {
             tags,
             fields,
             time,
-            front,
+            prefix,
         }
     }
 }

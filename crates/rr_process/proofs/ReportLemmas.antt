@@ -109,10 +109,11 @@ HasReported-all c pushed text nothing ended has =
     ∙ ap (λ (b : Bool). items b pushed) ended in
     (has.reported ∙ ap (report_from c.precision c.now 1) all, has.refused ∙ ap (count_by (is_refused c.precision)) all)
 
--- what is reported is a front of the report of the whole stream, whatever comes
-pub HasReported-front : (c : Checker) (pushed text more : List ℕ) → MayCome c.feed more true → HasReported c pushed text
+-- what is reported is a prefix of the report of the whole stream, whatever comes
+pub HasReported-prefix : (c : Checker) (pushed text more : List ℕ) → MayCome c.feed more true
+    → HasReported c pushed text
     → (rest : List ℕ) × (report_of c.precision c.now (pushed ++ more) ≡ text ++ rest)
-HasReported-front c pushed text more may has =
+HasReported-prefix c pushed text more may has =
     let left = items_left (with_more c.feed more true) in
     let rest = report_from c.precision c.now (1 + length has.handed) left in (
       rest,

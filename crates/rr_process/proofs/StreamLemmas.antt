@@ -10,31 +10,31 @@ use Rattle.rr_feed.specs.Feed.{items_left, MayCome}
 use Rattle.rr_process.specs.declared.checker.Checker.{Checker}
 use Rattle.rr_process.specs.Report.{report_of}
 use Rattle.rr_process.specs.Checker.{HasReported, Reports}
-use Rattle.rr_process.proofs.ReportLemmas.{HasReported-all, HasReported-front}
+use Rattle.rr_process.proofs.ReportLemmas.{HasReported-all, HasReported-prefix}
 
 -- before the end anything may come
 pub may_come : (c : Checker) (more : List ℕ) → c.feed.ended ≡ false → MayCome c.feed more true
 may_come c more going = λ e. absurd cc
 
--- a writer that holds what is reported holds a front of the report of the whole stream
-pub front_of_reported : (c : Checker) (pushed before more : List ℕ) (start written : Option (List ℕ))
+-- a writer that holds what is reported holds a prefix of the report of the whole stream
+pub prefix_of_reported : (c : Checker) (pushed before more : List ℕ) (start written : Option (List ℕ))
     → MayCome c.feed more true → HasReported c pushed before → Appends start written before
     → AppendsPrefix start written (report_of c.precision c.now (pushed ++ more))
-front_of_reported c pushed before more start written may has appends =
-    let front = HasReported-front c pushed before more may has in
-    (before, front.0, front.1, appends)
+prefix_of_reported c pushed before more start written may has appends =
+    let prefix = HasReported-prefix c pushed before more may has in
+    (before, prefix.0, prefix.1, appends)
 
--- so it does where a front of what is reported next follows
-pub front_of_more : (old new : Checker) (pushed before text more : List ℕ) (start mid written : Option (List ℕ))
+-- so it does where a prefix of what is reported next follows
+pub prefix_of_more : (old new : Checker) (pushed before text more : List ℕ) (start mid written : Option (List ℕ))
     → Reports old new text → MayCome old.feed more true → HasReported old pushed before → Appends start mid before
     → AppendsPrefix mid written text → AppendsPrefix start written (report_of old.precision old.now (pushed ++ more))
-front_of_more old new pushed before text more start mid written reports may has appends part =
-    let front = HasReported-front new pushed (before ++ text) more (λ e. may (sym reports.ended ∙ e))
+prefix_of_more old new pushed before text more start mid written reports may has appends part =
+    let prefix = HasReported-prefix new pushed (before ++ text) more (λ e. may (sym reports.ended ∙ e))
     (reports.reported pushed before has) in
     let same : report_of old.precision old.now (pushed ++ more) ≡ report_of new.precision new.now (pushed ++ more) =
     rw (reports.precision, reports.now) refl in
-    subst (AppendsPrefix start written) (sym (same ∙ front.1))
-    (prefix_before start written (before ++ text) front.0 (prefix_after start mid written before text appends part))
+    subst (AppendsPrefix start written) (sym (same ∙ prefix.1))
+    (prefix_before start written (before ++ text) prefix.0 (prefix_after start mid written before text appends part))
 
 -- once all is reported, a writer that holds that holds the report of the stream
 pub report_of_all : (old new : Checker) (pushed before text : List ℕ) (start mid written : Option (List ℕ))
@@ -70,12 +70,12 @@ pub record HasWritten (c : Checker) (had left : Option (List ℕ)) (start writte
   pub reported : HasReported c taken text
   pub appended : Appends start written text
 
--- the writer holds a front of the report of all the reader's bytes
-pub front_so_far : (c : Checker) (had left start written : Option (List ℕ)) → c.feed.ended ≡ false
+-- the writer holds a prefix of the report of all the reader's bytes
+pub prefix_so_far : (c : Checker) (had left start written : Option (List ℕ)) → c.feed.ended ≡ false
     → HasWritten c had left start written → IfSome had
     (λ bytes. AppendsPrefix start written (report_of c.precision c.now bytes))
-front_so_far c had left start written going so_far =
+prefix_so_far c had left start written going so_far =
     of_all_bytes had left so_far.taken (λ bytes. AppendsPrefix start written (report_of c.precision c.now bytes))
     so_far.consumed
-    (λ more. front_of_reported c so_far.taken so_far.text more start written (may_come c more going) so_far.reported
+    (λ more. prefix_of_reported c so_far.taken so_far.text more start written (may_come c more going) so_far.reported
     so_far.appended)

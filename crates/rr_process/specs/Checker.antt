@@ -8,7 +8,7 @@ use Rattle.rr_feed.specs.Feed.{MayCome, empty_feed, items_left, state}
 use Rattle.rr_feed.specs.Items.{Item}
 use Rattle.rr_feed.specs.Laws.{IsFed}
 use Rattle.rr_line.specs.declared.precision.Precision.{Precision}
-use Rattle.rr_process.specs.declared.check.TheConstants.{PIECE}
+use Rattle.rr_feed.specs.declared.piece.TheConstants.{PIECE}
 use Rattle.rr_process.specs.declared.checker.Checker.{Checker}
 use Rattle.rr_process.specs.declared.fault.ToolFault.{ToolFault}
 use Rattle.rr_process.specs.Report.{is_refused, refused_count, report_from, report_of}
@@ -58,17 +58,17 @@ pub record ReportsAll (old new : Checker) (text : List ℕ) : Type 0 where
   pub reports : Reports old new text
   pub all_taken : items_left new.feed ≡ []
 
--- the report of the items that could be handed out was written whole; or a front of the report of all lines was,
+-- the report of the items that could be handed out was written whole; or a prefix of the report of all lines was,
 -- whatever lines still come, and the result says why no more was
 pub record WritesItems {W X : Type 0} (contents : W → Option (List ℕ)) (old new : Checker)
     (output output_new : Counted W) (result : Result X ToolFault) : Type 0 where
   pub reported : OnOk result ((text : List ℕ) × ReportsAll old new text × WritesWhole contents output output_new text)
-  pub front : (pushed before more : List ℕ) (start : Option (List ℕ)) → HasReported old pushed before
+  pub prefix : (pushed before more : List ℕ) (start : Option (List ℕ)) → HasReported old pushed before
       → Appends start (contents (inner_of output)) before → MayCome old.feed more true
       → AppendsPrefix start (contents (inner_of output_new)) (report_of old.precision old.now (pushed ++ more))
   pub writes : WritesOut output output_new result
 
--- the report of all that was pushed was written whole and passed on, and the refused lines are counted; or a front of
+-- the report of all that was pushed was written whole and passed on, and the refused lines are counted; or a prefix of
 -- the report was written, and the result says why no more was
 pub record WritesReport {W : Type 0} (contents : W → Option (List ℕ)) (old : Checker) (output output_new : Counted W)
     (result : Result ℕ ToolFault) : Type 0 where
@@ -77,7 +77,7 @@ pub record WritesReport {W : Type 0} (contents : W → Option (List ℕ)) (old :
       → Appends start (contents (inner_of output_new)) (report_of old.precision old.now pushed))
   pub refused : IfOk result (λ refused. (pushed before : List ℕ) → HasReported old pushed before
       → refused ≡ refused_count old.precision pushed)
-  pub front : (pushed before : List ℕ) (start : Option (List ℕ)) → HasReported old pushed before
+  pub prefix : (pushed before : List ℕ) (start : Option (List ℕ)) → HasReported old pushed before
       → Appends start (contents (inner_of output)) before
       → AppendsPrefix start (contents (inner_of output_new)) (report_of old.precision old.now pushed)
   pub flushed : OnOk result (is_flushed output_new ≡ true)

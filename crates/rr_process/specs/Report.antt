@@ -10,7 +10,8 @@ use Rattle.rr_point.specs.Key.{key_text}
 use Rattle.rr_point.specs.Point.{PointView}
 use Rattle.rr_line.specs.Line.{LineView, nothing, point}
 use Rattle.rr_line.specs.Reading.{reading}
-use Rattle.rr_fetch.specs.Records.{record_text, refusal_text}
+use Rattle.rr_fetch.specs.Records.{record_text}
+use Rattle.rr_text.specs.Refusal.{refusal_text}
 
 -- the record of a sample: its key text, its value, and its time in nanoseconds
 abbrev pub sample_text : List ℕ → ℤ → ℤ → List ℕ

@@ -2,7 +2,7 @@
 use Rattle.std.specs.Prelude.{◌≡◌, ◌⊎◌, ℕ, ℤ, true, List, Option, IfErr, IfOk, IfSome, OnOk, Result, Err}
 use Rattle.rr_io.specs.declared.counted.Counted.{Counted}
 use Rattle.rr_io.specs.Counted.{inner_of, ends_of, is_flushed}
-use Rattle.rr_io.specs.Stream.{HasFailed, HasFewReads, HasReads, KeepsFailures, WritesFront, WritesWhole}
+use Rattle.rr_io.specs.Stream.{HasFailed, HasFewReads, HasReads, KeepsFailures, WritesPrefix, WritesWhole}
 use Rattle.rr_line.specs.declared.precision.Precision.{Precision}
 use Rattle.rr_process.specs.declared.fault.ToolFault.{ToolFault}
 use Rattle.rr_process.specs.declared.fault.ToolFault.TheVariants.{ReadFailed, TooManyReads, WriteFailed, Memory}
@@ -22,14 +22,14 @@ pub record WritesOut {W X : Type 0} (old new : Counted W) (result : Result X Too
   pub faults : IfErr result (λ fault. (fault ≡ WriteFailed) ⊎ (fault ≡ Memory))
 
 -- all that an input still had was read, in at most `reads` reads, and the text that is printed for it was written
--- whole; or a front of that text was written, and the result says why no more was
+-- whole; or a prefix of that text was written, and the result says why no more was
 pub record Prints {R W X : Type 0} (remaining : R → Option (List ℕ)) (contents : W → Option (List ℕ)) (reads : ℕ)
     (printed : List ℕ → List ℕ) (input input_new : Counted R) (output output_new : Counted W)
     (result : Result X ToolFault) : Type 0 where
   pub whole : OnOk result (IfSome (remaining (inner_of input))
       (λ bytes. WritesWhole contents output output_new (printed bytes)))
   -- however the call ends
-  pub front : IfSome (remaining (inner_of input)) (λ bytes. WritesFront contents output output_new (printed bytes))
+  pub prefix : IfSome (remaining (inner_of input)) (λ bytes. WritesPrefix contents output output_new (printed bytes))
   -- when a stream is to blame
   pub read : ReadsWithin reads input input_new result
   pub write_failed : result ≡ Err WriteFailed → HasFailed output output_new
@@ -43,11 +43,11 @@ pub record ReportsLines {R W : Type 0} (remaining : R → Option (List ℕ)) (co
       (λ bytes. refused ≡ refused_count precision bytes))
   pub flushed : OnOk result (is_flushed output_new ≡ true)
 
--- the whole text was written and passed on; or a front of it was written, and a write failed
+-- the whole text was written and passed on; or a prefix of it was written, and a write failed
 pub record WritesText {W X : Type 0} (contents : W → Option (List ℕ)) (output output_new : Counted W) (text : List ℕ)
     (result : Result X ToolFault) : Type 0 where
   pub whole : OnOk result (WritesWhole contents output output_new text)
   pub flushed : OnOk result (is_flushed output_new ≡ true)
-  pub front : WritesFront contents output output_new text
+  pub prefix : WritesPrefix contents output output_new text
   pub failed : IfErr result (λ fault. fault ≡ WriteFailed)
   pub write_failed : result ≡ Err WriteFailed → HasFailed output output_new

@@ -5,6 +5,7 @@ ghost use Rattle.rr_process.specs.Streams.{ReportsLines};
 
 use crate::checker::Checker;
 use crate::fault::ToolFault;
+use rr_feed::PIECE;
 use rr_io::Counted;
 use rr_io::stream::read_once;
 use rr_line::Precision;
@@ -12,18 +13,13 @@ use rr_text::limits::MAX_READS;
 use std::alloc::Global;
 use std::io::{Read, Write};
 
-/// How many bytes a read asks for.
-const PIECE: usize = 65_536;
-
-const _: () = prove!(PIECE == 65_536);
-
 /// Writes the report of the lines that `input` still has, and answers how many of them are refused.
 ///
 /// For each field of a point it writes `KEY TEXT,VALUE,TIME` to `output`, with the time in
 /// nanoseconds, and `now` where the line has none; for a refused line `line N: NAME`, where N
 /// counts all lines from 1. An empty line and a comment produce no output.
 ///
-/// What is written is a front of the report wherever a call ends. The cost is that of reading each
+/// What is written is a prefix of the report wherever a call ends. The cost is that of reading each
 /// line and of making the key of each of its fields; a piece of the input, one line and their
 /// report are held.
 pub fn check_lines<R: Read, W: Write>(

@@ -2,7 +2,7 @@
 
 ghost use Rattle.std.specs.Prelude.{◌≡◌, ◌+◌, ◌*◌, ◌<◌, ◌≤◌, ◌^◌, ◌++◌, ℕ, List, [], length, IfOk, OnOk};
 ghost use Rattle.rr_feed.specs.Feed.{items_left};
-ghost use Rattle.rr_process.specs.declared.check.TheConstants.{PIECE};
+ghost use Rattle.rr_feed.specs.declared.piece.TheConstants.{PIECE};
 
 use crate::fault::ToolFault;
 use crate::report::push_item;

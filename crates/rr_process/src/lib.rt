@@ -10,7 +10,7 @@
 //! ([`run_script`]) or checks lines ([`check_lines`]), from a reader to a writer, and its contract
 //! says what is written: what the sample model prints for the script (`specs/Orders.antt`), or the
 //! report of the lines (`specs/Report.antt`), which is written piece by piece as they come. What is
-//! written is a front of that wherever a run ends. Streams are counted, so that one is blamed only
+//! written is a prefix of that wherever a run ends. Streams are counted, so that one is blamed only
 //! where a call of it failed ([`ToolFault`]).
 //!
 //! A run ends with status 0 where it is done, 1 where lines were refused, 2 where the command line

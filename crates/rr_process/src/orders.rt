@@ -20,7 +20,7 @@ use std::io::{Read, Write};
 /// they print is written to `output`. An order to serve has no such streams: nothing is read or
 /// written.
 ///
-/// What is written is a front of that wherever a run ends.
+/// What is written is a prefix of that wherever a run ends.
 pub fn obey_order<R: Read, W: Write>(
     alloc: Global,
     order: &Order,

@@ -7,13 +7,14 @@ ghost use Rattle.rr_line.specs.Fault.{line_fault_name};
 ghost use Rattle.rr_point.specs.Key.{HasKeys};
 ghost use Rattle.rr_point.specs.Point.{point_view};
 ghost use Rattle.rr_line.specs.Reading.{reading};
-ghost use Rattle.rr_fetch.specs.Records.{refusal_text};
+ghost use Rattle.rr_text.specs.Refusal.{refusal_text};
 ghost use Rattle.rr_process.specs.Report.{is_refused, item_text, line_text, point_text};
 
 use itoa::Buffer;
 use rr_feed::{FeedLine, LINE_TOO_LONG};
-use rr_fetch::{push_plain, push_refusal};
+use rr_fetch::push_plain;
 use rr_line::{Line, LineFault, Point, Precision, parse_line};
+use rr_text::refusal::push_refusal;
 use std::alloc::{AllocError, Global};
 
 /// Adds the samples of a point; one without a time is of the time `now`. Each key text is written

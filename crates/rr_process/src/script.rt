@@ -16,7 +16,7 @@ use std::io::{Read, Write};
 
 /// Runs the script that `input` still has, read to its end, and writes what it prints to `output`.
 ///
-/// Nothing is written before the script is done. After `WriteFailed` a front of its output is.
+/// Nothing is written before the script is done. After `WriteFailed` a prefix of its output is.
 pub fn run_script<R: Read, W: Write>(
     alloc: Global,
     input: &mut Counted<R>,

@@ -11,7 +11,7 @@ use Rattle.rr_schema.specs.Schema.{Layout, archive_at, slot_of}
 use Rattle.rr_contrib.specs.Validity.{CanAdd}
 use Rattle.rr_archive.specs.CellSlots.{CellSlot, cell_slot}
 use Rattle.rr_archive.specs.Cells.{ArchiveCells, put_in_archive}
-use Rattle.rr_replica.specs.declared.reading.Reading.{Reading}
+use Rattle.rr_replica.specs.declared.unkeyed_sample.UnkeyedSample.{UnkeyedSample}
 use Rattle.rr_replica.specs.Archives.{cell_slot_for, sample_for, Each, AreSized, AreReadyFrom, CanTake, AreSame, HavePut}
 
 -- within a list there is something
@@ -171,7 +171,7 @@ module _ {X : Type 0} (cells : X → ArchiveCells) (limit : X → ℕ) (is_ready
 
 -- ---- samples are put
 
-pub record ArePut {X : Type 0} (cells : X → ArchiveCells) (limit : X → ℕ) (s : Layout) (x : Reading) (i : ℕ)
+pub record ArePut {X : Type 0} (cells : X → ArchiveCells) (limit : X → ℕ) (s : Layout) (x : UnkeyedSample) (i : ℕ)
     (old new : List X) : Type 0 where
   pub many : length new ≡ length old
   pub sized : AreSized limit s new
@@ -179,7 +179,7 @@ pub record ArePut {X : Type 0} (cells : X → ArchiveCells) (limit : X → ℕ) 
       → cells b ≡ put_in_archive (archive_at s j).rows (cells a) (cell_slot_for s x j) (sample_for s x j)
   pub rest : (j : ℕ) → i ≤ j → slice_get new j ≡ slice_get old j
 
-module _ {X : Type 0} (cells : X → ArchiveCells) (limit : X → ℕ) (s : Layout) (x : Reading) where
+module _ {X : Type 0} (cells : X → ArchiveCells) (limit : X → ℕ) (s : Layout) (x : UnkeyedSample) where
   pub put_none : (old : List X) → AreSized limit s old → ArePut cells limit s x 0 old old
   put_none old sized = record {
     many = refl;

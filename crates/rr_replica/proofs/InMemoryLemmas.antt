@@ -15,7 +15,7 @@ use Rattle.rr_schema.specs.Schema.{Layout, IsLayout}
 use Rattle.rr_contrib.specs.Validity.{CanAdd}
 use Rattle.rr_archive.specs.CellSlots.{CellSlot, cell_slot_cmp}
 use Rattle.rr_archive.specs.Cells.{ArchiveCells, entry_of, row_of}
-use Rattle.rr_replica.specs.declared.reading.Reading.{Reading}
+use Rattle.rr_replica.specs.declared.unkeyed_sample.UnkeyedSample.{UnkeyedSample}
 use Rattle.rr_cells.specs.Cells.{Cells, name_at, archive_cells, row_at}
 use Rattle.rr_contrib.specs.declared.contribution.Contribution.{Contribution}
 use Rattle.rr_cells.specs.CellNames.{cell_name_cmp}
@@ -31,7 +31,7 @@ use Rattle.rr_replica.proofs.Shown.{held_at, items_of, rows_shown, cells_same, c
 use Rattle.rr_cells.proofs.CellByCell.{trimmed_none}
 use Rattle.rr_cells.proofs.ReplicaStateLemmas.{IsTyped, holds_put, can_add}
 
-module _ {X : Type 0} (cells : X → ArchiveCells) (limit : X → ℕ) (s : Layout) (key : List ℕ) (x : Reading)
+module _ {X : Type 0} (cells : X → ArchiveCells) (limit : X → ℕ) (s : Layout) (key : List ℕ) (x : UnkeyedSample)
     (old : List (List ℕ × Vec X)) (kept : IsReplicaInMemory cells limit s x.origin x.number old)
     (known : x.number ≤ MAX_NUMBER) where
   abbrev all : Cells
@@ -147,7 +147,7 @@ pub cells_none : {X : Type 0} (cells : X → ArchiveCells) (entries : List (List
 unfolding cells_of
 cells_none cells entries none = ap (λ es. cells_of (held_series cells es)) none
 
--- ---- reading
+-- ---- samples without a key
 
 -- a row of an archive of a key
 pub row_found : {X : Type 0} (cells : X → ArchiveCells) (limit : X → ℕ) (s : Layout) (origin next : ℕ)

@@ -247,7 +247,7 @@ module _ {X : Type 0} where
         earlier (Some j) e = let a = there archives j (index_within is q j (sym e)) in
             get_first archives (now ∷ []) j a.0 a.1 ∙ sym a.1
 
--- what stands in the front of a list
+-- what stands in the prefix of a list
 pub slice_get-take : {Y : Type 0} (xs : List Y) (i j : ℕ) (y : Y) → slice_get (take i xs) j ≡ Some y
     → (slice_get xs j ≡ Some y) × (j < i)
 slice_get-take [] zero j y e = absurd (true≢false (sym (ap is_some e)))

@@ -53,13 +53,13 @@ first_of_all [] = refl
 first_of_all (e ∷ es) = refl
 
 -- a walk that has come to a cell, with so many keys to come
-pub one_taken : (front : List (List ℕ)) (count i : ℕ) (e : NamedCell) (es : List NamedCell) → i < count
-    → (front ++ e.0.key ∷ []) ++ keys_from (first_behind (Some e.0.key) es) (count - (i + 1)) es
-    ≡ front ++ keys_from (Some e) (count - i) es
+pub one_taken : (prefix : List (List ℕ)) (count i : ℕ) (e : NamedCell) (es : List NamedCell) → i < count
+    → (prefix ++ e.0.key ∷ []) ++ keys_from (first_behind (Some e.0.key) es) (count - (i + 1)) es
+    ≡ prefix ++ keys_from (Some e) (count - i) es
 unfolding keys_from
-one_taken front count i e es less =
-    append_assoc front (e.0.key ∷ []) (keys_from (first_behind (Some e.0.key) es) (count - (i + 1)) es)
-    ∙ ap (λ n. front ++ keys_from (Some e) n es) (left count i less)
+one_taken prefix count i e es less =
+    append_assoc prefix (e.0.key ∷ []) (keys_from (first_behind (Some e.0.key) es) (count - (i + 1)) es)
+    ∙ ap (λ n. prefix ++ keys_from (Some e) n es) (left count i less)
   where
     left : (count i : ℕ) → i < count → suc (count - (i + 1)) ≡ count - i
     left count i less = omega arith
@@ -70,13 +70,13 @@ no_more zero es = refl
 no_more (suc n) es = refl
 
 -- one that is over, as no key is left
-pub none_left : (front : List (List ℕ)) (n : ℕ) (es : List NamedCell) → front ≡ front ++ keys_from None n es
-none_left front n es = sym (append-nil front) ∙ ap (λ ks. front ++ ks) (sym (no_more n es))
+pub none_left : (prefix : List (List ℕ)) (n : ℕ) (es : List NamedCell) → prefix ≡ prefix ++ keys_from None n es
+none_left prefix n es = sym (append-nil prefix) ∙ ap (λ ks. prefix ++ ks) (sym (no_more n es))
 
 -- or as all were taken that are wanted
-pub all_taken : (front : List (List ℕ)) (count i : ℕ) (first : Option NamedCell) (es : List NamedCell) → count ≤ i
-    → front ≡ front ++ keys_from first (count - i) es
+pub all_taken : (prefix : List (List ℕ)) (count i : ℕ) (first : Option NamedCell) (es : List NamedCell) → count ≤ i
+    → prefix ≡ prefix ++ keys_from first (count - i) es
 unfolding keys_from
-all_taken front count i first es past =
+all_taken prefix count i first es past =
     let none : count - i ≡ 0 = omega arith in
-    sym (append-nil front) ∙ ap (λ n. front ++ keys_from first n es) (sym none)
+    sym (append-nil prefix) ∙ ap (λ n. prefix ++ keys_from first n es) (sym none)

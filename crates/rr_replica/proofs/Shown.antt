@@ -15,7 +15,7 @@ use Rattle.rr_schema.specs.Schema.{Layout, IsLayout, archive_at}
 use Rattle.rr_join.proofs.Members.{same_from_tie, tie_itself}
 use Rattle.rr_archive.specs.Cells.{ArchiveCells, put_in_archive}
 use Rattle.rr_cells.specs.Samples as model
-use Rattle.rr_replica.specs.declared.reading.Reading.{Reading}
+use Rattle.rr_replica.specs.declared.unkeyed_sample.UnkeyedSample.{UnkeyedSample}
 use Rattle.rr_cells.specs.Cells.{Cells, IsTrimmed, archive_cells}
 use Rattle.rr_cells.specs.Puts.{put_sample}
 use Rattle.rr_text.specs.Bytes.{bytes_cmp}
@@ -147,7 +147,7 @@ module _ {X : Type 0} (cells : X → ArchiveCells) where
       ∙ sym (λ j. unwrap_or (option_map cells (slice_get_past old i past j)) empty))
       (cases_lt i (length old))
 
-  pub held_put : (s : Layout) → IsLayout s → (key : List ℕ) (x : Reading) (all : Cells) (old new : List X) (i : ℕ)
+  pub held_put : (s : Layout) → IsLayout s → (key : List ℕ) (x : UnkeyedSample) (all : Cells) (old new : List X) (i : ℕ)
       → IsTrimmed s all → length old ≡ length s.archives → HavePut cells s x old new
       → ((j : ℕ) → archive_cells all key j ≡ held_at cells old j)
       → held_at cells new i ≡ archive_cells (put_sample s all (keyed_sample key x)) key i

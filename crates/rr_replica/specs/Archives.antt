@@ -10,7 +10,7 @@ use Rattle.rr_contrib.specs.Validity.{CanAdd}
 use Rattle.std.specs.Prelude.{IfSome}
 use Rattle.rr_archive.specs.CellSlots.{CellSlot, cell_slot}
 use Rattle.rr_archive.specs.Cells.{ArchiveCells, put_in_archive, join_cell}
-use Rattle.rr_replica.specs.declared.reading.Reading.{Reading}
+use Rattle.rr_replica.specs.declared.unkeyed_sample.UnkeyedSample.{UnkeyedSample}
 use Rattle.rr_cells.specs.declared.cell.Cell.{Cell}
 use Rattle.rr_cells.specs.declared.op.Op.{Op}
 use Rattle.rr_cells.specs.declared.op.Op.TheVariants.{Put, Join}
@@ -18,11 +18,11 @@ use Rattle.rr_cells.specs.CellBounds.{IsCellOf}
 use Rattle.rr_cells.specs.Listing.{owned_cell}
 
 -- where the sample falls in an archive
-abbrev pub cell_slot_for : Layout → Reading → ℕ → CellSlot
+abbrev pub cell_slot_for : Layout → UnkeyedSample → ℕ → CellSlot
 cell_slot_for s x archive = cell_slot (slot_of s archive x.time) x.origin
 
 -- the sample, as the slot of an archive sees it
-abbrev pub sample_for : Layout → Reading → ℕ → SlotSample
+abbrev pub sample_for : Layout → UnkeyedSample → ℕ → SlotSample
 sample_for s x archive = slot_sample x.number (place_of s archive x.time) x.time x.value
 
 -- a sample that is put has a time of 64 bits and a number from 1 to 2^40, and a cell that is joined is one of the
@@ -49,7 +49,7 @@ module _ {X : Type 0} where
     pub sized : AreSized limit s archives
 
   -- a sample of this number can be added to the cell where it falls
-  abbrev pub CanTake : (X → ArchiveCells) → Layout → Reading → List X → Type 0
+  abbrev pub CanTake : (X → ArchiveCells) → Layout → UnkeyedSample → List X → Type 0
   CanTake cells s x archives = Each (λ i a. IfSome (get (cells a) (cell_slot_for s x i)) (CanAdd x.number)) archives
 
   -- each archive from the one with a number on has room for a sample of a time and an origin
@@ -69,7 +69,7 @@ module _ {X : Type 0} where
     pub each : EachPair (λ i a b. cells b ≡ cells a) old new
 
   -- as many archives, each with the sample put
-  pub record HavePut (cells : X → ArchiveCells) (s : Layout) (x : Reading) (old new : List X) : Type 0 where
+  pub record HavePut (cells : X → ArchiveCells) (s : Layout) (x : UnkeyedSample) (old new : List X) : Type 0 where
     pub many : length new ≡ length old
     pub each : EachPair (λ i a b. cells b ≡ put_in_archive (archive_at s i).rows (cells a) (cell_slot_for s x i)
         (sample_for s x i)) old new
@@ -82,7 +82,8 @@ module _ {X : Type 0} where
     pub others : EachPair (λ i a b. i ≢ c.archive → cells b ≡ cells a) old new
 
   -- archives of a layout, and a sample that can be added to each of them
-  pub record SuitsReading (cells : X → ArchiveCells) (limit : X → ℕ) (s : Layout) (x : Reading) (archives : List X)
+  pub record SuitsUnkeyed (cells : X → ArchiveCells) (limit : X → ℕ) (s : Layout) (x : UnkeyedSample)
+      (archives : List X)
       : Type 0 where
     pub of_schema : AreOf limit s archives
     pub newer : CanTake cells s x archives
@@ -109,7 +110,7 @@ module _ {X : Type 0} where
 
   -- each took a sample, or memory ran out and none did; where there was room for it, memory doesn't run out
   pub record TakeSample (cells : X → ArchiveCells) (limit : X → ℕ) (is_ready : X → CellSlot → Bool) (s : Layout)
-      (x : Reading) (old new : List X) (result : Result (Unit {0}) AllocError) : Type 0 where
+      (x : UnkeyedSample) (old new : List X) (result : Result (Unit {0}) AllocError) : Type 0 where
     pub put : OnOk result (HavePut cells s x old new)
     pub unchanged : OnErr result (AreSame cells old new)
     pub of_schema : AreOf limit s new

@@ -9,7 +9,7 @@ use Rattle.rr_cells.specs.Operations.{accepts, op_key, step}
 use Rattle.rr_cells.specs.ReplicaState.{ReplicaState}
 use Rattle.rr_replica.specs.declared.fault.PutFault.{PutFault}
 use Rattle.rr_replica.specs.declared.fault.PutFault.TheVariants as why
-use Rattle.rr_replica.specs.declared.reading.Reading.{Reading}
+use Rattle.rr_replica.specs.declared.unkeyed_sample.UnkeyedSample.{UnkeyedSample}
 use Rattle.rr_replica.specs.Becomes.{Becomes}
 use Rattle.rr_replica.specs.Numbered.{knows}
 use Rattle.rr_replica.specs.ReplicaWithRoom.{ReplicaWithRoom, replica_state, IsReadyFor}
@@ -36,14 +36,14 @@ pub record TakesCell (c : Cell) (old new : ReplicaWithRoom) (result : Result Boo
   pub taken : Takes (Join c) old new result
   pub keys : knows old.keys c.key ≡ true → new.keys ≡ old.keys
 
--- a reading of the replica's origin, under the next number or a later one
-pub record IsNextReading (r : ReplicaWithRoom) (x : Reading) : Type 0 where
+-- a sample without its key of the replica's origin, under the next number or a later one
+pub record IsNextUnkeyed (r : ReplicaWithRoom) (x : UnkeyedSample) : Type 0 where
   pub origin : x.origin ≡ r.origin
   pub number : r.next ≤ x.number
 
--- a reading of the replica's origin, under the next number or a later one, of the series with this number
-pub record IsNextReadingOf (r : ReplicaWithRoom) (series : ℕ) (x : Reading) : Type 0 where
-  pub next : IsNextReading r x
+-- a sample without its key of the replica's origin, under the next number or a later one, of the series with this number
+pub record IsNextUnkeyedOf (r : ReplicaWithRoom) (series : ℕ) (x : UnkeyedSample) : Type 0 where
+  pub next : IsNextUnkeyed r x
   pub there : series < length r.keys
 
 -- an operation that the replica takes, on the series with this number

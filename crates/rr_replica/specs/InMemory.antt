@@ -10,7 +10,7 @@ use Rattle.rr_schema.specs.Schema.{Layout, IsLayout}
 use Rattle.rr_archive.specs.CellSlots.{CellSlot}
 use Rattle.rr_archive.specs.Cells.{ArchiveCells}
 use Rattle.rr_cells.specs.Samples as model
-use Rattle.rr_replica.specs.declared.reading.Reading.{Reading}
+use Rattle.rr_replica.specs.declared.unkeyed_sample.UnkeyedSample.{UnkeyedSample}
 use Rattle.rr_cells.specs.declared.sample.Sample.{Sample}
 use Rattle.rr_cells.specs.declared.cell.Cell.{Cell}
 use Rattle.rr_cells.specs.declared.op.Op.{Op}
@@ -24,13 +24,13 @@ use Rattle.rr_text.specs.Bytes.{bytes_cmp}
 use Rattle.rr_replica.specs.Series.{Series, cells_of}
 use Rattle.rr_replica.specs.Archives.{AreSized, HaveRoomFor, IsOpOf}
 
--- a reading, as a sample of a key
-abbrev pub sample_of_reading : List ℕ → Reading → Sample
-sample_of_reading key x = record { origin = x.origin; number = x.number; key = key; time = x.time; value = x.value }
+-- a sample without its key, as a sample of a key
+abbrev pub sample_of_unkeyed : List ℕ → UnkeyedSample → Sample
+sample_of_unkeyed key x = record { origin = x.origin; number = x.number; key = key; time = x.time; value = x.value }
 
 -- and as the model has it
-abbrev pub keyed_sample : List ℕ → Reading → model.Sample
-keyed_sample key x = sample_of (sample_of_reading key x)
+abbrev pub keyed_sample : List ℕ → UnkeyedSample → model.Sample
+keyed_sample key x = sample_of (sample_of_unkeyed key x)
 
 module _ {X : Type 0} where
   -- the archives of each key, each seen as a map
@@ -93,13 +93,13 @@ module _ {X : Type 0} where
     pub sized : AreAllSized limit schema new
     pub room : OnOk result (HasRoom is_ready schema op new)
 
-  -- a reading was put as a sample of a key, or memory ran out and it was not; where there was room, it doesn't run out
-  pub record PutsReading (cells : X → ArchiveCells) (limit : X → ℕ) (is_ready : X → CellSlot → Bool) (schema : Layout)
-      (key : List ℕ) (x : Reading) (old new : List (List ℕ × Vec X)) (result : Result (Unit {0}) AllocError)
+  -- a sample without its key was put as a sample of a key, or memory ran out and it was not; where there was room, it doesn't run out
+  pub record PutsUnkeyed (cells : X → ArchiveCells) (limit : X → ℕ) (is_ready : X → CellSlot → Bool) (schema : Layout)
+      (key : List ℕ) (x : UnkeyedSample) (old new : List (List ℕ × Vec X)) (result : Result (Unit {0}) AllocError)
       : Type 0 where
     pub put : OnOk result (cells_of (held_series cells new)
         ≡ put_sample schema (cells_of (held_series cells old)) (keyed_sample key x))
     pub held_with : OnOk result (IsReplicaInMemory cells limit schema x.origin (x.number + 1) new)
     pub unchanged : OnErr result (cells_of (held_series cells new) ≡ cells_of (held_series cells old))
     pub held : OnErr result (IsReplicaInMemory cells limit schema x.origin x.number new)
-    pub room : HasRoom is_ready schema (Put (sample_of_reading key x)) old → IsOk result
+    pub room : HasRoom is_ready schema (Put (sample_of_unkeyed key x)) old → IsOk result

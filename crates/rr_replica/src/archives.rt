@@ -1,10 +1,10 @@
 //! The archives of one key.
 ghost use Rattle.std.specs.Prelude.{◌≡◌, ℕ, ◌<◌, slice_get, IsOk, OnOk, IfOk};
 ghost use Rattle.std.specs.FinMap as fin;
-ghost use Rattle.rr_replica.specs.Archives.{Each, AreOf, AreReadyFrom, AreSame, MakeRoom, SuitsArchives, SuitsReading, TakeCell, TakeSample};
+ghost use Rattle.rr_replica.specs.Archives.{Each, AreOf, AreReadyFrom, AreSame, MakeRoom, SuitsArchives, SuitsUnkeyed, TakeCell, TakeSample};
 
-use crate::reading::Reading;
 use crate::slots::{place_in, slot_near};
+use crate::unkeyed_sample::UnkeyedSample;
 use rr_archive::Cells;
 use rr_cells::{Cell, Op};
 use rr_schema::{Origin, Schema};
@@ -53,12 +53,12 @@ fn make_ready<A: Cells>(
 /// Puts a sample into each archive, or into none: if the first can't take it, nothing has changed
 /// yet, and those after it have room.
 #[inline(always)]
-pub(crate) fn put_into<A: Cells>(
+pub(crate) fn store_in<A: Cells>(
     archives: &mut Vec<A>,
     schema: &Schema,
-    sample: &Reading,
+    sample: &UnkeyedSample,
 ) -> Result<(), AllocError>
-    requires { SuitsReading A.cells A.row_limit schema.now sample.now archives.old.items }
+    requires { SuitsUnkeyed A.cells A.row_limit schema.now sample.now archives.old.items }
     ensures { TakeSample A.cells A.row_limit A.is_ready schema.now sample.now archives.old.items
         archives.new.items result }
 {

@@ -5,8 +5,8 @@ ghost use Rattle.rr_cells.specs.CellBounds.{IsCellOf};
 ghost use Rattle.rr_cells.specs.Listing.{owned_cell, at_most_usize, cell_name, next_cell};
 ghost use Rattle.rr_replica.specs.Listing.{LendsCell};
 
-use crate::listing::{count_cells, nth_cell};
 use crate::next::{NameRef, next_cell};
+use crate::nth_cell::{count_cells, nth_cell};
 use crate::replica::Replica;
 use rr_archive::Cells;
 use rr_cells::{Cell, CellRef};

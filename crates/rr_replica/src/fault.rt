@@ -6,6 +6,12 @@ use std::alloc::{AllocError, AllocFailed};
 use std::fmt;
 use thiserror::Error;
 
+/// The printed name of a refusal by the clock.
+pub const AHEAD_OF_CLOCK: &str = "AheadOfClock";
+
+/// The printed name of a refusal for want of numbers.
+pub const NUMBERS_SPENT: &str = "NumbersSpent";
+
 /// Why a sample isn't put.
 #[derive(Clone, Copy, Debug, PartialEq, Eq, Error)]
 pub enum PutFault {
@@ -23,7 +29,7 @@ impl PutFault {
         ensures { result.now ≡ put_fault_name self.now }
     {
         match self {
-            PutFault::NumbersSpent => "NumbersSpent",
+            PutFault::NumbersSpent => NUMBERS_SPENT,
             PutFault::Memory => "Memory",
         }
     }
@@ -80,8 +86,8 @@ impl WriteFault {
         ensures { result.now ≡ write_fault_name self.now }
     {
         match self {
-            WriteFault::AheadOfClock => "AheadOfClock",
-            WriteFault::NumbersSpent => "NumbersSpent",
+            WriteFault::AheadOfClock => AHEAD_OF_CLOCK,
+            WriteFault::NumbersSpent => NUMBERS_SPENT,
             WriteFault::Memory { .. } => "Memory",
         }
     }

@@ -55,7 +55,7 @@ impl Hints {
             return;
         }
         if let Some(last) = keys.last() {
-            self.put(last, keys.len() - 1);
+            self.insert(last, keys.len() - 1);
         }
     }
 
@@ -64,13 +64,13 @@ impl Hints {
         let count = self.buckets.len().saturating_mul(2).max(FIRST_BUCKETS);
         self.buckets = vec![in self.alloc; EMPTY; count]?;
         for i in 0..keys.len() {
-            self.put(&keys[i], i);
+            self.insert(&keys[i], i);
         }
         Ok(())
     }
 
     /// Writes the index of a key into the first of its buckets that is empty, if there is one.
-    fn put(&mut self, key: &SeriesKey, index: usize) {
+    fn insert(&mut self, key: &SeriesKey, index: usize) {
         let Ok(index) = u32::try_from(index) else {
             return;
         };

@@ -21,8 +21,9 @@ impl<A: Cells> Replica<A> {
         self.keeps_near(Hint::none(), key, time)
     }
 
-    /// Whether a sample would be kept, as [`Replica::keeps`] says. If the hint is right, a comparison
-    /// of two keys takes the place of each look-up; no archive is looked at after one that keeps it.
+    /// Whether a sample would be kept, as [`Replica::keeps`] says. If the hint is right, a
+    /// comparison of two keys takes the place of each look-up; no archive is looked at after one
+    /// that keeps it.
     pub fn keeps_near(&self, hint: Hint, key: &SeriesKey, time: i64) -> bool
         ensures { result ≡ keeps self.now.schema self.now.cells key.now time }
     {

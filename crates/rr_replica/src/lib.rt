@@ -12,30 +12,30 @@
 //! which then can't fail (`specs/ReplicaWithRoom.antt`).
 #![tactic(auto)]
 
-mod applying;
 mod archives;
 mod cells;
-mod copying;
+mod copies;
 mod fault;
 mod hint;
 mod hints;
 mod horizon;
-mod joining;
+mod joins;
 mod keys;
 pub mod laws;
-mod listing;
 mod next;
-mod putting;
-mod reading;
+mod nth_cell;
+mod operations;
+mod points;
 mod replica;
 mod room;
+mod samples;
 mod series;
-mod sharing;
+mod shared_rows;
 mod slots;
-mod writing;
+mod unkeyed_sample;
 
-pub use fault::{JoinFault, PutFault, WriteFault};
+pub use fault::{AHEAD_OF_CLOCK, JoinFault, NUMBERS_SPENT, PutFault, WriteFault};
 pub use hint::Hint;
+pub use points::{Sink, is_ahead, write_point};
 pub use replica::Replica;
 pub use rr_cells::{Cell, CellRef, Op, Sample};
-pub use writing::{Sink, is_ahead, put_point};

@@ -10,7 +10,7 @@ ghost use Rattle.rr_cells.specs.Listing.{seen_cell, first_after, next_cell};
 ghost use Rattle.rr_replica.specs.Listing.{seen_name};
 ghost use Rattle.rr_replica.specs.Series.{cells_from, cells_of};
 
-use crate::listing::named;
+use crate::nth_cell::named;
 use crate::series::SeriesMap;
 use rr_archive::Cells;
 use rr_cells::CellRef;

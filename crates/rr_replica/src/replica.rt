@@ -7,21 +7,21 @@ ghost use Rattle.rr_cells.specs.Cells.{row_at, archive_cells};
 ghost use Rattle.rr_cells.specs.ReplicaState.{with_sample, with_put, IsReplicaState};
 ghost use Rattle.rr_cells.specs.Operations.{accepts, op_key};
 ghost use Rattle.rr_replica.specs.Numbered.{knows, with_key};
-ghost use Rattle.rr_replica.specs.InMemory.{sample_of_reading, keyed_sample};
+ghost use Rattle.rr_replica.specs.InMemory.{sample_of_unkeyed, keyed_sample};
 ghost use Rattle.rr_cells.specs.Listing.{owned_cell};
 ghost use Rattle.rr_replica.specs.ReplicaWithRoom.{replica_state, HasRoomFor};
-ghost use Rattle.rr_replica.specs.Calls.{BecomesInRoom, IsNextReading, IsNextReadingOf, MakesReady, PutsNext};
+ghost use Rattle.rr_replica.specs.Calls.{BecomesInRoom, IsNextUnkeyed, IsNextUnkeyedOf, MakesReady, PutsNext};
 ghost use Rattle.rr_replica.specs.Writing.{lacks_numbers};
 ghost use Rattle.rr_replica.specs.Becomes.{Becomes};
 
-use crate::copying::copy_series;
+use crate::copies::copy_series;
 use crate::fault::{JoinFault, PutFault};
 use crate::hint::Hint;
-use crate::joining::{join_in, next_after};
-use crate::putting::{put_at, put_in};
-use crate::reading::Reading;
+use crate::joins::{join_in, next_after};
 use crate::room::{add_key_in, make_room_in};
+use crate::samples::{store_at, store_by_key};
 use crate::series::SeriesMap;
+use crate::unkeyed_sample::UnkeyedSample;
 use rr_archive::{Archive, Cells, Entry};
 use rr_cells::{Cell, Op};
 use rr_key::SeriesKey;
@@ -145,27 +145,31 @@ impl<A: Cells> Replica<A> {
             return Err(PutFault::NumbersSpent);
         }
         let number = self.next;
-        let sample = Reading {
+        let sample = UnkeyedSample {
             origin: self.origin,
             number,
             time,
             value,
         };
-        self.put_reading(key, sample)?;
+        self.put_unkeyed(key, sample)?;
         Ok(number)
     }
 
     /// Puts a sample of a key under its own number, after which the next one comes.
-    pub(crate) fn put_reading(&mut self, key: &SeriesKey, sample: Reading) -> Result<(), AllocError>
-        requires { IsNextReading self.old sample }
+    pub(crate) fn put_unkeyed(
+        &mut self,
+        key: &SeriesKey,
+        sample: UnkeyedSample,
+    ) -> Result<(), AllocError>
+        requires { IsNextUnkeyed self.old sample }
         ensures state { Becomes (replica_state self.old)
             (with_sample (replica_state self.old) (keyed_sample key.now sample))
             (replica_state self.new) result }
-        ensures room { HasRoomFor self.old (Op.Put (sample_of_reading key.now sample))
+        ensures room { HasRoomFor self.old (Op.Put (sample_of_unkeyed key.now sample))
             → IsOk result }
     {
         let number = sample.number;
-        put_in(&mut self.series, self.alloc, &self.schema, key, sample)?;
+        store_by_key(&mut self.series, self.alloc, &self.schema, key, sample)?;
         self.next = number + 1;
         Ok(())
     }
@@ -173,21 +177,21 @@ impl<A: Cells> Replica<A> {
     /// Puts a sample of the series with a number under its own number, after which the next one
     /// comes.
     #[inline(always)]
-    pub(crate) fn put_reading_at(
+    pub(crate) fn put_unkeyed_at(
         &mut self,
         series: usize,
-        sample: Reading,
+        sample: UnkeyedSample,
     ) -> Result<(), AllocError>
-        requires { IsNextReadingOf self.old series sample }
+        requires { IsNextUnkeyedOf self.old series sample }
         ensures { BecomesInRoom
             (HasRoomFor self.old
-            (Op.Put (sample_of_reading (get_or self.old.keys series []) sample)))
+            (Op.Put (sample_of_unkeyed (get_or self.old.keys series []) sample)))
             (with_sample (replica_state self.old)
             (keyed_sample (get_or self.old.keys series []) sample))
             self.old self.new result }
     {
         let last = sample.number;
-        put_at(&mut self.series, &self.schema, series, sample)?;
+        store_at(&mut self.series, &self.schema, series, sample)?;
         self.next = last + 1;
         Ok(())
     }
@@ -283,7 +287,8 @@ impl<A: Cells> Replica<A> {
         self.archive_near(Hint::none(), key, i)
     }
 
-    /// The archive of a key with a number, as [`Replica::archive`] gives it. The hint is tried first.
+    /// The archive of a key with a number, as [`Replica::archive`] gives it. The hint is tried
+    /// first.
     pub(crate) fn archive_near(&self, hint: Hint, key: &SeriesKey, i: u8) -> Option<&A>
         ensures { MatchOption result (archive_cells self.now.cells key.now i ≡ fin.empty)
             (λ archive. A.cells archive.now ≡ archive_cells self.now.cells key.now i) }

@@ -16,8 +16,8 @@ use rr_key::SeriesKey;
 use rr_schema::Schema;
 use std::alloc::{AllocError, Global};
 
-/// Makes room for an operation in the archives of its key, which are added where there are none, and
-/// says which series it is. No cell changes.
+/// Makes room for an operation in the archives of its key, which are added where there are none,
+/// and says which series it is. No cell changes.
 #[inline(always)]
 pub(crate) fn make_room_in<A: Cells>(
     series: &mut SeriesMap<A>,

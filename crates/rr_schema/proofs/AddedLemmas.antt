@@ -36,11 +36,11 @@ kept_rises i a = elim (cases_lt (a + 1) i) [
 get_or-without : {A : Type 0} (i a : ℕ) (xs : List A) (d : A) → i < length xs
     → get_or (without i xs) a d ≡ get_or xs (kept i a) d
 get_or-without i a xs d h =
-    let front : length (take i xs) ≡ i = omega (arith, length-take i xs) in
+    let prefix : length (take i xs) ≡ i = omega (arith, length-take i xs) in
     elim (cases_lt a i) [
-      | inl p ↦ get_or_append_left (take i xs) (drop (i + 1) xs) d a (omega (arith, front, p)) ∙ get_or-take i xs a d p
+      | inl p ↦ get_or_append_left (take i xs) (drop (i + 1) xs) d a (omega (arith, prefix, p)) ∙ get_or-take i xs a d p
           ∙ sym (ap (λ k. get_or xs k d) (kept_before i a p))
-      | inr p ↦ get_or-append_right (take i xs) (drop (i + 1) xs) i a d front p ∙ get_or-drop (i + 1) xs (a - i) d
+      | inr p ↦ get_or-append_right (take i xs) (drop (i + 1) xs) i a d prefix p ∙ get_or-drop (i + 1) xs (a - i) d
           ∙ ap (λ k. get_or xs k d) (let here : i + 1 + (a - i) ≡ a + 1 = omega (arith, p) in here
           ∙ sym (kept_after i a p))
     ]
@@ -54,13 +54,14 @@ length-without i xs h = omega (
   length-drop (i + 1) xs,
 )
 
--- a list is another without an element where its front and its rest are
+-- a list is another without an element where its prefix and its rest are
 pub parts_are_without : {A : Type 0} (i : ℕ) (xs ys : List A) → take i ys ≡ take i xs → drop i ys ≡ drop (i + 1) xs
     → ys ≡ without i xs
-parts_are_without i xs ys front rest = sym (take-append-drop i ys) ∙ (λ j. front j ++ rest j)
+parts_are_without i xs ys prefix rest = sym (take-append-drop i ys) ∙ (λ j. prefix j ++ rest j)
 
-pub front_is_without : {A : Type 0} (i : ℕ) (xs ys : List A) → i < length xs → ys ≡ without i xs → take i ys ≡ take i xs
-front_is_without i xs ys h e =
+pub prefix_is_without : {A : Type 0} (i : ℕ) (xs ys : List A) → i < length xs → ys ≡ without i xs
+    → take i ys ≡ take i xs
+prefix_is_without i xs ys h e =
     let len : length (take i xs) ≡ i = omega (arith, length-take i xs) in
     ap (take i) e ∙ ap (λ k. take k (without i xs)) (sym len) ∙ take-append_seam (take i xs) (drop (i + 1) xs)
 

@@ -1,4 +1,4 @@
--- What follows pieces at the front of bytes.
+-- What follows pieces at the beginning of bytes.
 use Rattle.std.proofs.Common.{◌≡◌, ◌≢◌, ℕ, ◌+◌, ◌<◌, ◌↔◌, List, [], ◌++◌, length, take, drop, Option, None, Some, Bor, option_map, get_or, sym, ap, ◌∙◌, append_assoc, append-nil}
 use Rattle.std.specs.Prelude.{MatchOption}
 use Rattle.std.specs.List.{flat_map}

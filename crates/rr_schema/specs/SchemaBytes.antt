@@ -13,7 +13,7 @@ archive_bytes a = a.steps ∷ to_be_bytes w32 a.rows ++ to_be_bytes w16 a.num ++
 unfoldable pub schema_bytes : Layout → List ℕ
 schema_bytes s = to_be_bytes w32 s.step ++ length s.archives ∷ flat_map archive_bytes s.archives
 
--- what follows a piece at the front of bytes, or nothing where they do not begin with it
+-- what follows a piece at the beginning of bytes, or nothing where they do not begin with it
 abbrev pub IsAfter : List ℕ → List ℕ → Option (List ℕ) → Type 0
 IsAfter piece bytes (Some rest) = bytes ≡ piece ++ rest
 IsAfter piece bytes None = (rest : List ℕ) → bytes ≢ piece ++ rest

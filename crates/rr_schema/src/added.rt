@@ -22,8 +22,8 @@ fn are_without(number: usize, archives: &[ArchiveSpec], others: &[ArchiveSpec]) 
     if others.len() < number {
         return false;
     }
-    let (front, rest) = others.split_at(number);
-    front == &archives[..number] && rest == archives.split_at(number + 1).1
+    let (prefix, rest) = others.split_at(number);
+    prefix == &archives[..number] && rest == archives.split_at(number + 1).1
 }
 
 /// The archives without the one that has a number.

@@ -100,11 +100,11 @@ pub(crate) fn are_archives_without(number: usize, archives: Archives<'_>, bytes:
     ensures { IsTrue result ↔ (bytes.now
         ≡ flat_map archive_bytes (without number archives.entry.items.now)) }
 {
-    let front = Archives {
+    let prefix = Archives {
         items: &archives.items[..number],
     };
     let (_, others) = archives.items.split_at(number + 1);
-    match after_archives(front, bytes) {
+    match after_archives(prefix, bytes) {
         Some(rest) => are_archives(Archives { items: others }, rest),
         None => false,
     }

@@ -1,6 +1,6 @@
 //! What a node is, for those who watch it.
 
-use crate::greeting::VERSION;
+use rr_command_line::VERSION;
 use rr_schema::{Origin, Schema};
 use std::alloc::{AllocError, Global};
 

@@ -47,8 +47,8 @@ pub(crate) fn read_config(
     }
 }
 
-/// The replica that a snapshot in a file is loaded as, with its rows ready to be shared by the copies
-/// of a desk.
+/// The replica that a snapshot in a file is loaded as, with its rows ready to be shared by the
+/// copies of a desk.
 fn load_replica(
     rt: &(impl AllocGlobal + Files + Eprint),
     file: &str,

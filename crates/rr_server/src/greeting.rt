@@ -1,13 +1,11 @@
 //! What a node says as it starts.
 
 use rr_archive::Cells;
+use rr_command_line::VERSION;
 use rr_config::Config;
 use rr_replica::Replica;
 use rr_schema::Origin;
 use std::alloc::{AllocError, Global};
-
-/// The version of the program: that of the snapshots and pages that it writes.
-pub(crate) const VERSION: u8 = 2;
 
 /// How many series a replica has. The cost is a look-up for each.
 fn series_count<A: Cells>(replica: &Replica<A>) -> usize {

@@ -37,5 +37,5 @@ pub use clock::SystemClock;
 pub use program::run;
 pub use seats::TcpSeats;
 pub use shelf::FileShelf;
-pub use signals::{HaltFlag, Patience, SaveNews, Saved, StartBarrier};
+pub use signals::{HaltFlag, SaveNews, Saved, StartBarrier, Waiting};
 pub use tcp::{Calling, Listening};

@@ -1,7 +1,7 @@
 //! Where the connections of a node come from.
 
 use crate::server::OUT_OF_MEMORY;
-use crate::signals::{Flag, HaltFlag, Patience, StartBarrier};
+use crate::signals::{Flag, HaltFlag, StartBarrier, Waiting};
 use crate::tcp::Listening;
 use rr_config::Config;
 use rr_process::Ending;
@@ -16,9 +16,9 @@ pub(crate) struct Signals {
     /// The flag that ends its connections.
     pub(crate) halt: HaltFlag,
     /// The one by which an empty line connection asks for a snapshot.
-    pub(crate) wish: Flag,
+    pub(crate) save_requested: Flag,
     /// The one that says that a peer of another schema pulled.
-    pub(crate) alarm: Flag,
+    pub(crate) schema_differs: Flag,
     /// The barrier at which they begin.
     pub(crate) start: StartBarrier,
 }
@@ -28,18 +28,18 @@ impl Signals {
     fn new(alloc: Global, threads: usize) -> Result<Signals, AllocError> {
         Ok(Signals {
             halt: HaltFlag::new(alloc)?,
-            wish: Flag::new(alloc)?,
-            alarm: Flag::new(alloc)?,
+            save_requested: Flag::new(alloc)?,
+            schema_differs: Flag::new(alloc)?,
             start: StartBarrier::new(alloc, threads)?,
         })
     }
 
-    /// How one of its threads waits for visits: without end, or by turns of `every` seconds.
-    pub(crate) fn patience(&self, every: Option<u64>) -> Result<Patience, AllocError> {
-        let patience = Patience::new(self.halt.share()?).after_start(self.start.share()?);
+    /// How one of its threads waits for visits: without end, or for `every` seconds.
+    pub(crate) fn waiting(&self, every: Option<u64>) -> Result<Waiting, AllocError> {
+        let waiting = Waiting::new(self.halt.share()?).after_start(self.start.share()?);
         match every {
-            Some(every) => Ok(patience.by_turns(every, self.wish.share()?)),
-            None => Ok(patience),
+            Some(every) => Ok(waiting.at_intervals(every, self.save_requested.share()?)),
+            None => Ok(waiting),
         }
     }
 }
@@ -121,8 +121,8 @@ fn listen_for_fetch(
     signals: &Signals,
 ) -> Result<Listening, Ending> {
     let listening = listen_at(rt, address, bind(rt, address)?, idle, None, signals)?;
-    match signals.alarm.share() {
-        Ok(alarm) => Ok(listening.with_alarm(alarm)),
+    match signals.schema_differs.share() {
+        Ok(schema_differs) => Ok(listening.with_schema_flag(schema_differs)),
         Err(_) => Err(OUT_OF_MEMORY),
     }
 }
@@ -187,7 +187,7 @@ fn bind(
 }
 
 /// Listens at an address, whose connections may be silent for the idle time, until the flag is
-/// raised, by turns where these are named. The first is taken once all threads have begun.
+/// raised, or for an interval where one is named. The first is taken once all threads have begun.
 fn listen_at(
     rt: &(impl AllocGlobal + Eprint),
     address: &str,
@@ -196,10 +196,10 @@ fn listen_at(
     every: Option<u64>,
     signals: &Signals,
 ) -> Result<Listening, Ending> {
-    let Ok(patience) = signals.patience(every) else {
+    let Ok(waiting) = signals.waiting(every) else {
         return Err(OUT_OF_MEMORY);
     };
-    match Listening::new(rt.alloc(), listener, idle, patience) {
+    match Listening::new(rt.alloc(), listener, idle, waiting) {
         Ok(listening) => Ok(listening),
         Err(error) => Err(ending_of(rt, address, &error)),
     }

@@ -3,7 +3,7 @@
 use crate::about::about;
 use crate::front::{Answered, Desk, Door, Place, Queue, WebSeat, WebSeats};
 use crate::listeners::{Listeners, Signals};
-use crate::signals::{Board, HaltFlag};
+use crate::signals::{HaltFlag, SharedText};
 use crate::tcp::Listening;
 use rr_config::{Config, Http};
 use rr_desk::Reader;
@@ -19,7 +19,7 @@ use std::vec::IntoIter;
 #[derive(Drop)]
 pub(crate) struct Posts {
     pub(crate) queue: Queue,
-    pub(crate) board: Board,
+    pub(crate) metrics: SharedText,
     answered: Answered,
 }
 
@@ -28,7 +28,7 @@ impl Posts {
     fn new(alloc: Global, http: &Http) -> Result<Posts, AllocError> {
         Ok(Posts {
             queue: Queue::new(alloc, http.seats as usize)?,
-            board: Board::new(alloc)?,
+            metrics: SharedText::new(alloc)?,
             answered: Answered::new(alloc)?,
         })
     }
@@ -37,7 +37,7 @@ impl Posts {
     fn share(&self) -> Result<Posts, AllocError> {
         Ok(Posts {
             queue: self.queue.share()?,
-            board: self.board.share()?,
+            metrics: self.metrics.share()?,
             answered: self.answered.share()?,
         })
     }
@@ -123,7 +123,7 @@ fn web_seat(
     } = fittings;
     let Posts {
         queue,
-        board,
+        metrics,
         answered,
     } = posts;
     WebSeat {
@@ -134,7 +134,7 @@ fn web_seat(
             halt: desk_halt,
             precision: config.precision,
             about,
-            board,
+            metrics,
             answered,
         }),
         visits,

@@ -24,8 +24,8 @@ pub(crate) struct Plain {
     pub(crate) lines: Listening,
     pub(crate) seats: TcpSeats,
     pub(crate) halt: HaltFlag,
-    pub(crate) wish: Flag,
-    pub(crate) alarm: Flag,
+    pub(crate) save_requested: Flag,
+    pub(crate) schema_differs: Flag,
 }
 
 /// A seat for each reader, with the connections of its address.
@@ -63,16 +63,16 @@ impl Plain {
         let seats = seats(alloc, readers, fetches)?;
         let Signals {
             halt: own,
-            wish,
-            alarm,
+            save_requested,
+            schema_differs,
             ..
         } = signals;
         Ok(Plain {
             lines,
             seats: TcpSeats { seats, halt },
             halt: own,
-            wish,
-            alarm,
+            save_requested,
+            schema_differs,
         })
     }
 }

@@ -126,10 +126,17 @@ where
             mut lines,
             mut seats,
             halt,
-            wish,
-            alarm,
+            save_requested,
+            schema_differs,
         } = plain;
-        let mut tools = Tools::new(self.rt, self.config.every, parts, halt, wish, alarm);
+        let mut tools = Tools::new(
+            self.rt,
+            self.config.every,
+            parts,
+            halt,
+            save_requested,
+            schema_differs,
+        );
         Ok(work(
             self.rt.alloc(),
             keeper,

@@ -6,8 +6,8 @@
 //! ```
 //!
 //! [`Listening`] gives the connections that come in, and [`Calling`] connects to peers. A
-//! [`PacedDial`] calls each peer at most once a turn. A [`Half`] waits for one second at a time,
-//! and looks at the flag of its node in between. Nothing is known of sockets.
+//! [`PacedDial`] calls each peer at most once an interval. A [`Half`] waits for one second at a
+//! time, and looks at the flag of its node in between. Nothing is known of sockets.
 
 mod calling;
 mod listening;

@@ -3,7 +3,7 @@
 use crate::clock::SystemClock;
 use crate::program::lent;
 use crate::shelf::{FileShelf, PacedShelf, RoundLog};
-use crate::signals::{Board, Flag, HaltFlag, SaveNews};
+use crate::signals::{Flag, HaltFlag, SaveNews, SharedText};
 use crate::tcp::{Calling, PacedDial};
 use rr_config::Config;
 use std::alloc::AllocError;
@@ -21,10 +21,10 @@ pub(crate) struct Parts<'c, 'a, R> {
 }
 
 impl<'c, 'a, R: Files + Eprint + Clock + Wait> Parts<'c, 'a, R> {
-    /// The same parts, of which the log puts its counts on a board too.
-    pub(crate) fn on_board(self, board: Board) -> Parts<'c, 'a, R> {
+    /// The same parts, of which the log gives the metrics too.
+    pub(crate) fn with_metrics(self, metrics: SharedText) -> Parts<'c, 'a, R> {
         Parts {
-            log: self.log.on_board(board),
+            log: self.log.with_metrics(metrics),
             ..self
         }
     }
@@ -51,7 +51,7 @@ pub(crate) struct Tools<'c, 'a, R> {
     pub(crate) clock: SystemClock<&'a R>,
 }
 
-/// What reaches the peers, each at most once in a turn.
+/// What reaches the peers, each at most once an interval.
 fn dial<'c, 'a, R: AllocGlobal + Net<Stream = TcpStream> + Clock>(
     rt: &'a R,
     config: &'c Config,
@@ -95,20 +95,20 @@ where
 }
 
 impl<'c, 'a, R: Files + Eprint + Clock + Wait> Tools<'c, 'a, R> {
-    /// The tools of a keeper, made of their parts. Its shelf takes snapshots at most once in a turn
-    /// unless one is wished for, and tells of an alarm.
+    /// The tools of a keeper, made of their parts. Its shelf takes snapshots at most once an
+    /// interval unless one is requested, and says so where a peer of another schema pulled.
     pub(crate) fn new(
         rt: &'a R,
         every: Option<u64>,
         parts: Parts<'c, 'a, R>,
         halt: HaltFlag,
-        wish: Flag,
-        alarm: Flag,
+        save_requested: Flag,
+        schema_differs: Flag,
     ) -> Tools<'c, 'a, R> {
         let Parts { dial, files, log } = parts;
         Tools {
             dial,
-            shelf: PacedShelf::new(rt, files, every, wish, alarm, log),
+            shelf: PacedShelf::new(rt, files, every, save_requested, schema_differs, log),
             halt,
             clock: SystemClock::new(rt),
         }

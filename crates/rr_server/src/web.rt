@@ -4,7 +4,7 @@ use crate::front::{Kept, Queued, WebSeats, serve_web_node};
 use crate::listeners::{Listeners, Signals};
 use crate::places::{Shared, seats};
 use crate::server::{OUT_OF_MEMORY, Server};
-use crate::signals::{Flag, Patience, SaveNews};
+use crate::signals::{Flag, SaveNews, Waiting};
 use crate::tools::{Parts, Tools};
 use rr_config::{Config, Http};
 use rr_desk::{Keeper, Reader};
@@ -23,19 +23,28 @@ use std::time::Clock;
 #[derive(Drop)]
 struct Marks {
     /// How a visit is waited for.
-    patience: Patience,
+    waiting: Waiting,
     /// News of what is saved, and the bodies that wait for it, if the configuration says so.
     saves: Option<(SaveNews, Kept)>,
 }
 
 /// News of what is saved, and the bodies that wait for it, if they are answered once they are
 /// saved. If as many wait as there are seats, a snapshot is asked for at once.
-fn saves(alloc: Global, http: &Http, wish: &Flag) -> Result<Option<(SaveNews, Kept)>, AllocError> {
+fn saves(
+    alloc: Global,
+    http: &Http,
+    save_requested: &Flag,
+) -> Result<Option<(SaveNews, Kept)>, AllocError> {
     if !http.durable {
         return Ok(None);
     }
     let news = SaveNews::new(alloc)?;
-    let kept = Kept::new(alloc, news.share()?, http.seats as usize, wish.share()?);
+    let kept = Kept::new(
+        alloc,
+        news.share()?,
+        http.seats as usize,
+        save_requested.share()?,
+    );
     Ok(Some((news, kept)))
 }
 
@@ -48,8 +57,8 @@ impl Marks {
         signals: &Signals,
     ) -> Result<Marks, AllocError> {
         Ok(Marks {
-            patience: signals.patience(config.every)?,
-            saves: saves(alloc, http, &signals.wish)?,
+            waiting: signals.waiting(config.every)?,
+            saves: saves(alloc, http, &signals.save_requested)?,
         })
     }
 }
@@ -73,20 +82,34 @@ fn together<'c, 'a, R: Files + Eprint + Clock + Wait>(
     let Shared { posts, signals, .. } = shared;
     let Signals {
         halt,
-        wish,
-        alarm,
+        save_requested,
+        schema_differs,
         ..
     } = signals;
-    let visits = Queued::new(rt, alloc, posts.queue, config.idle, marks.patience);
-    let parts = parts.on_board(posts.board);
+    let visits = Queued::new(rt, alloc, posts.queue, config.idle, marks.waiting);
+    let parts = parts.with_metrics(posts.metrics);
     match marks.saves {
         Some((news, kept)) => Keeping {
             visits: visits.once_saved(kept),
-            tools: Tools::new(rt, config.every, parts.with_news(news), halt, wish, alarm),
+            tools: Tools::new(
+                rt,
+                config.every,
+                parts.with_news(news),
+                halt,
+                save_requested,
+                schema_differs,
+            ),
         },
         None => Keeping {
             visits,
-            tools: Tools::new(rt, config.every, parts, halt, wish, alarm),
+            tools: Tools::new(
+                rt,
+                config.every,
+                parts,
+                halt,
+                save_requested,
+                schema_differs,
+            ),
         },
     }
 }

@@ -21,11 +21,11 @@ use Rattle.rr_snapshot.specs.Stream.{Digests}
 use Rattle.rr_snapshot.proofs.ChainLemmas.{Gave, Digests-then}
 
 -- the bytes before those that are left, of bytes in two parts
-pub front_is : (front rest all : List ℕ) → all ≡ front ++ rest → bytes_before rest all ≡ front
-front_is front rest all e =
+pub prefix_is : (prefix rest all : List ℕ) → all ≡ prefix ++ rest → bytes_before rest all ≡ prefix
+prefix_is prefix rest all e =
     ap (bytes_before rest) e
-    ∙ ap (λ (n : ℕ). take n (front ++ rest)) (omega (arith, length-append front rest))
-    ∙ take_at front rest (length front) refl
+    ∙ ap (λ (n : ℕ). take n (prefix ++ rest)) (omega (arith, length-append prefix rest))
+    ∙ take_at prefix rest (length prefix) refl
 
 -- what is read after each piece of a head
 abbrev pub counted : Version → Addition × ℕ → ℕ × List ℕ → Result (Head × List ℕ) LoadFault
@@ -60,7 +60,7 @@ pub digest_of_taken : (all left : List ℕ) (now : Option (List ℕ)) (taken dig
     → Consumes (Some all) now taken → digest ≡ sha256 taken → digest ≡ sha256 (bytes_before left all)
 digest_of_taken all left now taken digest en took made =
     let parts : all ≡ taken ++ left = subst (λ (n : Option (List ℕ)). Consumes (Some all) n taken) en took in
-    made ∙ ap sha256 (sym (front_is taken left all parts))
+    made ∙ ap sha256 (sym (prefix_is taken left all parts))
 
 -- the head and the cells were read, and the bytes of both have this digest
 pub record IsBodyRead (s : Layout) (h : Head) (es : List NamedCell) (digest : List ℕ)

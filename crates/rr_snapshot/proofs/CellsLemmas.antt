@@ -5,7 +5,7 @@ use Rattle.rr_page.specs.declared.fault.PageFault.{PageFault}
 use Rattle.rr_page.specs.declared.version.Version.{Version}
 use Rattle.rr_page.specs.PageReading.{is_after, last_name, cells_at}
 use Rattle.rr_page.specs.Reading.{cell_at}
-use Rattle.rr_page.proofs.LoopLemmas.{with_front, goes_on, ends, falls, is_done}
+use Rattle.rr_page.proofs.LoopLemmas.{with_prefix, goes_on, ends, falls, is_done}
 use Rattle.rr_cells.specs.declared.cell.Cell.{Cell}
 use Rattle.rr_cells.specs.CellBounds.{NamedCell}
 use Rattle.rr_cells.specs.Listing.{owned_cell}
@@ -30,10 +30,10 @@ page_err (Err f) fault e = (f, refl, cc)
 
 -- what was read so far, and what is still read, make the whole, however many more are read
 abbrev pub IsSoFar : Version → Layout → List NamedCell → ℕ → ℕ → Option (List ℕ) → Option (List ℕ) → Type 0
-IsSoFar v s front count i old now =
+IsSoFar v s prefix count i old now =
     IfSome old (λ all. (rest : List ℕ) × (now ≡ Some rest)
-    × (with_front front (cells_at v s (last_name front) (count - i) rest) ≡ cells_at v s None count all)
-    × ((n : ℕ) → with_front front (cells_at v s (last_name front) n rest) ≡ cells_at v s None (i + n) all))
+    × (with_prefix prefix (cells_at v s (last_name prefix) (count - i) rest) ≡ cells_at v s None count all)
+    × ((n : ℕ) → with_prefix prefix (cells_at v s (last_name prefix) n rest) ≡ cells_at v s None (i + n) all))
 
 pub nothing_yet : (v : Version) (s : Layout) (count : ℕ) (old : Option (List ℕ)) → IsSoFar v s [] count 0 old old
 nothing_yet v s count None = tt
@@ -45,7 +45,7 @@ nothing_yet v s count (Some all) = (
   λ n. none (cells_at v s None n all) ∙ ap (λ (m : ℕ). cells_at v s None m all) (zero_more n),
 )
   where
-    none : (r : Result (List NamedCell × List ℕ) PageFault) → with_front [] r ≡ r
+    none : (r : Result (List NamedCell × List ℕ) PageFault) → with_prefix [] r ≡ r
     none (Ok x) = refl
     none (Err f) = refl
 
@@ -73,29 +73,31 @@ pub same_schema : (v : Version) (s t : Layout) (fault : LoadFault) (now new : Op
 same_schema v s t fault now new is read = subst (λ (u : Layout). StreamGives {X = Cell × ℕ} {Y = NamedCell}
     (λ x. owned_cell x.0) (Err fault) now new (λ all. as_in_page (cell_at v u all))) is read
 
-module _ (v : Version) (s : Layout) (front : List NamedCell) (count i : ℕ) (lt : i < count) where
-  pub goes_on_stream : (old now new : Option (List ℕ)) (e : NamedCell) → IsSoFar v s front count i old now
-      → Read v s e now new → is_after (last_name front) e.0 ≡ true → IsSoFar v s (front ++ e ∷ []) count (i + 1) old new
+module _ (v : Version) (s : Layout) (prefix : List NamedCell) (count i : ℕ) (lt : i < count) where
+  pub goes_on_stream : (old now new : Option (List ℕ)) (e : NamedCell) → IsSoFar v s prefix count i old now
+      → Read v s e now new → is_after (last_name prefix) e.0 ≡ true
+          → IsSoFar v s (prefix ++ e ∷ []) count (i + 1) old new
   goes_on_stream None now new e so_far step rising = tt
   goes_on_stream (Some all) now new e so_far step rising =
       let next = subst (λ (o : Option (List ℕ)). Read v s e o new) so_far.1 step in (
         next.0,
         next.1,
-        goes_on v s front count i so_far.0 (cells_at v s None count all) so_far.2 e next.0 lt
+        goes_on v s prefix count i so_far.0 (cells_at v s None count all) so_far.2 e next.0 lt
             (page_ok (cell_at v s so_far.0) (e, next.0) next.2) rising,
         λ n.
             let before : i + suc n - i ≡ suc n = omega arith in
             let after : i + suc n - (i + 1) ≡ n = omega arith in
             let all_of : i + suc n ≡ i + 1 + n = omega arith in
-            ap (λ (m : ℕ). with_front (front ++ e ∷ []) (cells_at v s (last_name (front ++ e ∷ [])) m next.0))
+            ap (λ (m : ℕ). with_prefix (prefix ++ e ∷ []) (cells_at v s (last_name (prefix ++ e ∷ [])) m next.0))
             (sym after)
-            ∙ goes_on v s front (i + suc n) i so_far.0 (cells_at v s None (i + suc n) all)
-            (ap (λ (m : ℕ). with_front front (cells_at v s (last_name front) m so_far.0)) before ∙ so_far.3 (suc n)) e
+            ∙ goes_on v s prefix (i + suc n) i so_far.0 (cells_at v s None (i + suc n) all)
+            (ap (λ (m : ℕ). with_prefix prefix (cells_at v s (last_name prefix) m so_far.0)) before ∙ so_far.3 (suc n))
+                e
             next.0 (omega arith) (page_ok (cell_at v s so_far.0) (e, next.0) next.2) rising
             ∙ ap (λ (m : ℕ). cells_at v s None m all) all_of,
       )
 
-  pub ends_stream : (old now : Option (List ℕ)) (fault : LoadFault) → IsSoFar v s front count i old now
+  pub ends_stream : (old now : Option (List ℕ)) (fault : LoadFault) → IsSoFar v s prefix count i old now
       → IfSome now (λ all. as_in_page (cell_at v s all) ≡ Err fault)
       → IfSome old (λ all. as_in_page (cells_at v s None count all) ≡ Err fault)
   ends_stream None now fault so_far step = tt
@@ -103,21 +105,21 @@ module _ (v : Version) (s : Layout) (front : List NamedCell) (count i : ℕ) (lt
       let next = subst (λ (o : Option (List ℕ)). IfSome o (λ all. as_in_page (cell_at v s all) ≡ Err fault)) so_far.1
       step in
       let f = page_err (cell_at v s so_far.0) fault next in
-      ap as_in_page (ends v s front count i so_far.0 (cells_at v s None count all) so_far.2 f.0 lt f.1)
+      ap as_in_page (ends v s prefix count i so_far.0 (cells_at v s None count all) so_far.2 f.0 lt f.1)
       ∙ ap (λ (d : LoadFault). Err d) f.2
 
-  pub falls_stream : (old now new : Option (List ℕ)) (e : NamedCell) → IsSoFar v s front count i old now
-      → Read v s e now new → is_after (last_name front) e.0 ≡ false
+  pub falls_stream : (old now new : Option (List ℕ)) (e : NamedCell) → IsSoFar v s prefix count i old now
+      → Read v s e now new → is_after (last_name prefix) e.0 ≡ false
       → IfSome old (λ all. as_in_page (cells_at v s None count all) ≡ Err why.OutOfOrder)
   falls_stream None now new e so_far step falling = tt
   falls_stream (Some all) now new e so_far step falling =
       let next = subst (λ (o : Option (List ℕ)). Read v s e o new) so_far.1 step in
-      ap as_in_page (falls v s front count i so_far.0 (cells_at v s None count all) so_far.2 e next.0 lt
+      ap as_in_page (falls v s prefix count i so_far.0 (cells_at v s None count all) so_far.2 e next.0 lt
       (page_ok (cell_at v s so_far.0) (e, next.0) next.2) falling)
 
   -- a fault of a cell is one of the cells
   pub passed_made : {X : Type 0} (made : X → List NamedCell → Type 0) (old now new : Option (List ℕ))
-      (fault : LoadFault) → IsSoFar v s front count i old now
+      (fault : LoadFault) → IsSoFar v s prefix count i old now
       → StreamGives {X = Cell × ℕ} {Y = NamedCell} (λ x. owned_cell x.0) (Err fault) now new
       (λ all. as_in_page (cell_at v s all))
       → StreamMakes made (Err fault) old new (λ all. as_in_page (cells_at v s None count all))
@@ -126,19 +128,19 @@ module _ (v : Version) (s : Layout) (front : List NamedCell) (count i : ℕ) (lt
   passed_made made old now new fault so_far (inr (inr e)) = inr (inr (ends_stream old now fault so_far e))
 
 -- so far the cells are good
-pub first_read : (v : Version) (s : Layout) (front : List NamedCell) (count i : ℕ) (all : List ℕ)
-    (now : Option (List ℕ)) (so_far : IsSoFar v s front count i (Some all) now)
-    → cells_at v s None i all ≡ Ok (front, so_far.0)
+pub first_read : (v : Version) (s : Layout) (prefix : List NamedCell) (count i : ℕ) (all : List ℕ)
+    (now : Option (List ℕ)) (so_far : IsSoFar v s prefix count i (Some all) now)
+    → cells_at v s None i all ≡ Ok (prefix, so_far.0)
 unfolding cells_at
-first_read v s front count i all now so_far =
+first_read v s prefix count i all now so_far =
     let none : i + 0 ≡ i = omega arith in
     ap (λ (n : ℕ). cells_at v s None n all) (sym none) ∙ sym (so_far.3 0)
-    ∙ ap (λ (l : List NamedCell). Ok (l, so_far.0)) (append-nil front)
+    ∙ ap (λ (l : List NamedCell). Ok (l, so_far.0)) (append-nil prefix)
 
-pub done_stream : (v : Version) (s : Layout) (front : List NamedCell) (count i : ℕ) (old now : Option (List ℕ))
-    → count ≤ i → IsSoFar v s front count i old now
+pub done_stream : (v : Version) (s : Layout) (prefix : List NamedCell) (count i : ℕ) (old now : Option (List ℕ))
+    → count ≤ i → IsSoFar v s prefix count i old now
     → IfSome old (λ all. (rest : List ℕ) × (now ≡ Some rest)
-    × (as_in_page (cells_at v s None count all) ≡ Ok (front, rest)))
-done_stream v s front count i None now le so_far = tt
-done_stream v s front count i (Some all) now le so_far =
-    (so_far.0, so_far.1, ap as_in_page (is_done v s front count i so_far.0 (cells_at v s None count all) so_far.2 le))
+    × (as_in_page (cells_at v s None count all) ≡ Ok (prefix, rest)))
+done_stream v s prefix count i None now le so_far = tt
+done_stream v s prefix count i (Some all) now le so_far =
+    (so_far.0, so_far.1, ap as_in_page (is_done v s prefix count i so_far.0 (cells_at v s None count all) so_far.2 le))

@@ -1,11 +1,11 @@
-pub mod FrontLemmas
+pub mod PrefixLemmas
 pub mod SaveLemmas
 pub mod WidthLemmas
 pub mod StreamLemmas
 pub mod PieceLemmas
 pub mod ChainLemmas
 pub mod CellsLemmas
-pub mod ToldLemmas
+pub mod AdditionLemmas
 pub mod BodyLemmas
 pub mod TakenLemmas
 pub mod SnapshotLemmas

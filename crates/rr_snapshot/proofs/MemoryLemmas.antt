@@ -13,17 +13,18 @@ use Rattle.rr_snapshot.proofs.CellsLemmas.{IsSoFar, Read, first_read, page_ok}
 use Rattle.rr_snapshot.specs.Loading.{StopsAmong}
 
 -- after the cells so far one more was read
-pub stops_among : (s : Layout) (h : Head) (front : List NamedCell) (i : ℕ) (old now new : Option (List ℕ)) → i < h.count
-    → IsSoFar h.version (older s h.addition) front h.count i old now
+pub stops_among : (s : Layout) (h : Head) (prefix : List NamedCell) (i : ℕ) (old now new : Option (List ℕ))
+    → i < h.count
+    → IsSoFar h.version (older s h.addition) prefix h.count i old now
     → HasRead now new (cell_at h.version (older s h.addition)) → IfSome old (λ bytes. StopsAmong s h bytes new)
-stops_among s h front i None now new lt so_far read = tt
-stops_among s h front i (Some all) now new lt so_far read =
+stops_among s h prefix i None now new lt so_far read = tt
+stops_among s h prefix i (Some all) now new lt so_far read =
     let next = subst (λ (o : Option (List ℕ)). HasRead o new (cell_at h.version (older s h.addition))) so_far.1 read in
     inr (record {
       done = i;
-      before = front;
+      before = prefix;
       rest = so_far.0;
-      good = first_read h.version (older s h.addition) front h.count i all now so_far;
+      good = first_read h.version (older s h.addition) prefix h.count i all now so_far;
       not_all = lt;
       cell = next.0;
       left = next.1;

@@ -14,14 +14,14 @@ use Rattle.rr_schema.specs.declared.added.Addition.{Addition}
 use Rattle.rr_schema.specs.declared.added.Addition.TheVariants.{Nothing}
 use Rattle.rr_text.specs.Results.{◌>>=◌, unless}
 use Rattle.rr_page.specs.PageReading.{version_at}
-use Rattle.rr_page.specs.Reading.{front_at, number_at}
-use Rattle.rr_page.proofs.FrontLemmas.{Reader, IsFront, IsFront-field, IsFront-then, IsFront-unless, IsFront-done, IsFront-number, IsFront-version, extended}
+use Rattle.rr_page.specs.Reading.{prefix_at, number_at}
+use Rattle.rr_page.proofs.PrefixLemmas.{Reader, ReadsPrefix, ReadsPrefix-field, ReadsPrefix-then, ReadsPrefix-unless, ReadsPrefix-done, ReadsPrefix-number, ReadsPrefix-version, extended}
 use Rattle.rr_snapshot.specs.Fault.{load_fault}
 use Rattle.rr_snapshot.specs.Snapshot.{magic}
-use Rattle.rr_snapshot.specs.SnapshotReading.{as_in_page, may_have_had, start_at, addition_told, archives_at}
+use Rattle.rr_snapshot.specs.SnapshotReading.{as_in_page, may_have_had, start_at, fitting_addition, archives_at}
 use Rattle.rr_snapshot.proofs.WidthLemmas.{HasWidth, HasWidth-field, HasWidth-then, HasWidth-done, HasWidth-last, HasWidth-number}
 
-module _ {A : Type 0} (k : ℕ) (r : Reader A) (front : IsFront r) (width : HasWidth k r) (bytes : List ℕ)
+module _ {A : Type 0} (k : ℕ) (r : Reader A) (prefix : ReadsPrefix r) (width : HasWidth k r) (bytes : List ℕ)
     (few : length bytes ≤ k) where
   decided_ok : (rest : List ℕ) (x : A) (left : List ℕ) → r bytes ≡ Ok (x, left)
       → (r bytes ≡ Err Short) ⊎ (r (bytes ++ rest) ≡ extended rest (r bytes)) → r (bytes ++ rest) ≡ Ok (x, rest)
@@ -47,7 +47,7 @@ module _ {A : Type 0} (k : ℕ) (r : Reader A) (front : IsFront r) (width : HasW
     rest,
     refl,
     ap (λ (l : List ℕ). as_in_page (r l)) took
-        ∙ ap as_in_page (decided_ok rest x left is (front.more bytes rest)),
+        ∙ ap as_in_page (decided_ok rest x left is (prefix.more bytes rest)),
   )
 
   pub piece_err : (old new : Option (List ℕ)) (fault : PageFault) → Consumes old new bytes
@@ -56,7 +56,7 @@ module _ {A : Type 0} (k : ℕ) (r : Reader A) (front : IsFront r) (width : HasW
   piece_err None new fault took end is = tt
   piece_err (Some all) None fault took end is = absurd took
   piece_err (Some all) (Some rest) fault took end is = ap (λ (l : List ℕ). as_in_page (r l)) took
-      ∙ ap as_in_page (decided_err rest fault end is (front.more bytes rest))
+      ∙ ap as_in_page (decided_err rest fault end is (prefix.more bytes rest))
 
 -- ---- the start of a snapshot
 
@@ -78,21 +78,21 @@ HasWidth-version = HasWidth-then 1 0 (number_at w8) _ (HasWidth-number w8) (λ n
     named (Some v) = HasWidth-done v
 
 module _ (s : Layout) where
-  pub IsFront-start : IsFront (start_at s)
+  pub ReadsPrefix-start : ReadsPrefix (start_at s)
   unfolding start_at
-  IsFront-start =
-      IsFront-then (front_at (length magic)) _ (IsFront-field (length magic)) (λ start.
-      IsFront-then (λ bytes. unless BadMagic (not (pointwise nat_eq start magic)) (version_at bytes)) _
-      (IsFront-unless BadMagic (not (pointwise nat_eq start magic)) version_at IsFront-version) (λ version.
-      IsFront-then (number_at w32) _ (IsFront-number w32) (λ step.
-      IsFront-then (number_at w8) _ (IsFront-number w8) (λ number.
-      IsFront-unless SchemaDiffers (not (may_have_had s step number)) (λ bytes. Ok ((version, number), bytes))
-      (IsFront-done (version, number))))))
+  ReadsPrefix-start =
+      ReadsPrefix-then (prefix_at (length magic)) _ (ReadsPrefix-field (length magic)) (λ start.
+      ReadsPrefix-then (λ bytes. unless BadMagic (not (pointwise nat_eq start magic)) (version_at bytes)) _
+      (ReadsPrefix-unless BadMagic (not (pointwise nat_eq start magic)) version_at ReadsPrefix-version) (λ version.
+      ReadsPrefix-then (number_at w32) _ (ReadsPrefix-number w32) (λ step.
+      ReadsPrefix-then (number_at w8) _ (ReadsPrefix-number w8) (λ number.
+      ReadsPrefix-unless SchemaDiffers (not (may_have_had s step number)) (λ bytes. Ok ((version, number), bytes))
+      (ReadsPrefix-done (version, number))))))
 
   pub HasWidth-start : HasWidth 10 (start_at s)
   unfolding start_at
   HasWidth-start =
-      HasWidth-then 4 6 (front_at 4) _ (HasWidth-field 4) (λ start.
+      HasWidth-then 4 6 (prefix_at 4) _ (HasWidth-field 4) (λ start.
       HasWidth-then 1 5 (λ bytes. unless BadMagic (not (pointwise nat_eq start magic)) (version_at bytes)) _
       (HasWidth-unless 1 BadMagic (not (pointwise nat_eq start magic)) version_at (λ e. absurd (cc e)) HasWidth-version)
       (λ version.
@@ -105,21 +105,22 @@ module _ (s : Layout) where
 abbrev with_origin : Addition → List ℕ → Result ((Addition × ℕ) × List ℕ) PageFault
 with_origin a bytes = number_at w16 bytes >>= λ origin. Ok ((a, origin.0), origin.1)
 
-front_some : (a : Addition) → IsFront (with_origin a)
-front_some a = IsFront-then (number_at w16) _ (IsFront-number w16) (λ origin. IsFront-done (a, origin))
+prefix_some : (a : Addition) → ReadsPrefix (with_origin a)
+prefix_some a = ReadsPrefix-then (number_at w16) _ (ReadsPrefix-number w16) (λ origin. ReadsPrefix-done (a, origin))
 
 width_some : (a : Addition) → HasWidth 2 (with_origin a)
 width_some a = HasWidth-then 2 0 (number_at w16) _ (HasWidth-number w16) (λ origin. HasWidth-done (a, origin))
 
 module _ (v : Version) (s : Layout) (number : ℕ) where
-  front_by : (o : Option Addition) → IsFront (λ bytes. ok_or o SchemaDiffers >>= λ (a : Addition). with_origin a bytes)
-  front_by None = IsFront-unless SchemaDiffers true (with_origin Nothing) (front_some Nothing)
-  front_by (Some a) = front_some a
+  prefix_by : (o : Option Addition)
+      → ReadsPrefix (λ bytes. ok_or o SchemaDiffers >>= λ (a : Addition). with_origin a bytes)
+  prefix_by None = ReadsPrefix-unless SchemaDiffers true (with_origin Nothing) (prefix_some Nothing)
+  prefix_by (Some a) = prefix_some a
 
-  pub IsFront-archives : IsFront (archives_at v s number)
+  pub ReadsPrefix-archives : ReadsPrefix (archives_at v s number)
   unfolding archives_at
-  IsFront-archives = IsFront-then (front_at (9 * number)) _ (IsFront-field (9 * number))
-      (λ field. front_by (addition_told v s field))
+  ReadsPrefix-archives = ReadsPrefix-then (prefix_at (9 * number)) _ (ReadsPrefix-field (9 * number))
+      (λ field. prefix_by (fitting_addition v s field))
 
   width_by : (o : Option Addition) → HasWidth 2 (λ bytes. ok_or o SchemaDiffers >>= λ (a : Addition). with_origin a
       bytes)
@@ -128,5 +129,5 @@ module _ (v : Version) (s : Layout) (number : ℕ) where
 
   pub HasWidth-archives : HasWidth (9 * number + 2) (archives_at v s number)
   unfolding archives_at
-  HasWidth-archives = HasWidth-then (9 * number) 2 (front_at (9 * number)) _ (HasWidth-field (9 * number))
-      (λ field. width_by (addition_told v s field))
+  HasWidth-archives = HasWidth-then (9 * number) 2 (prefix_at (9 * number)) _ (HasWidth-field (9 * number))
+      (λ field. width_by (fitting_addition v s field))

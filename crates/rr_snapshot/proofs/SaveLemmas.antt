@@ -42,26 +42,26 @@ module _ (s : Layout) (o : ℕ) (es : List NamedCell) (piece : List ℕ)
   pub digest_is : (digest : List ℕ) → digest ≡ sha256 (piece ++ cells) → digest ≡ sha256 (body_text latest s o es)
   digest_is digest e = e ∙ ap sha256 body_is
 
-  pub front_of_head : (a b : Option (List ℕ)) → AppendsPrefix a b piece
+  pub prefix_of_head : (a b : Option (List ℕ)) → AppendsPrefix a b piece
       → AppendsPrefix a b (snapshot_text latest s o es)
   unfolding snapshot_text
-  front_of_head a b part = prefix_before a b body (sha256 body)
+  prefix_of_head a b part = prefix_before a b body (sha256 body)
       (subst (AppendsPrefix a b) body_is (prefix_before a b piece cells part))
 
-  pub front_of_cells : (a b c : Option (List ℕ)) → Appends a b piece
+  pub prefix_of_cells : (a b c : Option (List ℕ)) → Appends a b piece
       → AppendsPrefix b c (flat_map (cell_text latest) es) → AppendsPrefix a c (snapshot_text latest s o es)
   unfolding snapshot_text
-  front_of_cells a b c first part = prefix_before a c body (sha256 body)
+  prefix_of_cells a b c first part = prefix_before a c body (sha256 body)
       (subst (AppendsPrefix a c) body_is (prefix_after a b c piece cells first part))
 
   written_body : (a b c : Option (List ℕ)) → Appends a b piece → Appends b c cells → Appends a c body
   written_body a b c first second = subst (Appends a c) body_is (Appends-trans a b c piece cells first second)
 
-  pub front_of_digest : (a b c d : Option (List ℕ)) (digest : List ℕ) → Appends a b piece
+  pub prefix_of_digest : (a b c d : Option (List ℕ)) (digest : List ℕ) → Appends a b piece
       → Appends b c (flat_map (cell_text latest) es) → digest ≡ sha256 (body_text latest s o es)
       → AppendsPrefix c d digest → AppendsPrefix a d (snapshot_text latest s o es)
   unfolding snapshot_text
-  front_of_digest a b c d digest first second e part =
+  prefix_of_digest a b c d digest first second e part =
       prefix_after a c d body (sha256 body) (written_body a b c first second) (subst (AppendsPrefix c d) e part)
 
   pub written_whole : (a b c d : Option (List ℕ)) (digest : List ℕ) → Appends a b piece

@@ -30,7 +30,7 @@ use Rattle.rr_page.specs.Reading.{number_at}
 use Rattle.rr_page.specs.Version.{version_byte, HasMasksFor, has_masks_for}
 use Rattle.rr_page.proofs.CellsLemmas.{cells_again}
 use Rattle.rr_page.proofs.FieldLemmas as field
-use Rattle.rr_page.proofs.FieldLemmas.{front_again, number_again}
+use Rattle.rr_page.proofs.FieldLemmas.{prefix_again, number_again}
 use Rattle.rr_page.proofs.HeadLemmas.{both, masks_tell, version_again}
 use Rattle.rr_page.proofs.NumberLemmas.{wide8, wide16, wide32}
 use Rattle.rr_page.proofs.OrderLemmas.{sorted_rising}
@@ -40,9 +40,9 @@ use Rattle.rr_snapshot.specs.declared.heading.Head.{Head}
 use Rattle.rr_snapshot.specs.declared.heading.TheConstants.{MAX_SNAPSHOT_CELLS}
 use Rattle.rr_snapshot.specs.TextLaws.{SnapshotsAreTheirText, NoSnapshotBeginsAnother}
 use Rattle.rr_snapshot.specs.Snapshot.{IsSnapshot, magic, head_text, body_text, snapshot_text}
-use Rattle.rr_snapshot.specs.SnapshotReading.{as_in_page, may_have_had, start_at, is_told, addition_told, archives_at, head_at, digest_at, end_at, snapshot_at}
-use Rattle.rr_snapshot.proofs.BodyLemmas.{after_archives, after_start, front_is}
-use Rattle.rr_snapshot.proofs.TakenLemmas.{ok_is, step, one_byte, had_told, snapshot_takes}
+use Rattle.rr_snapshot.specs.SnapshotReading.{as_in_page, may_have_had, start_at, fits_addition, fitting_addition, archives_at, head_at, digest_at, end_at, snapshot_at}
+use Rattle.rr_snapshot.proofs.BodyLemmas.{after_archives, after_start, prefix_is}
+use Rattle.rr_snapshot.proofs.TakenLemmas.{ok_is, step, one_byte, had_fitting, snapshot_takes}
 
 -- ---- from the text
 
@@ -51,7 +51,7 @@ start_by : (s : Layout) (v : Version) (step number : ℕ) (rest : List ℕ) → 
     ≡ unless SchemaDiffers (not (may_have_had s step number)) (Ok ((v, number), rest))
 unfolding start_at
 start_by s v step number rest short few =
-    field.step _ (front_again 4 magic (version_byte v ∷ (to_be_bytes w32 step ++ (number ∷ rest))) refl)
+    field.step _ (prefix_again 4 magic (version_byte v ∷ (to_be_bytes w32 step ++ (number ∷ rest))) refl)
     ∙ field.step _ (version_again v (to_be_bytes w32 step ++ (number ∷ rest)))
     ∙ field.step _ (number_again w32 wide32 step (number ∷ rest) short)
     ∙ field.step _ (ap (λ (l : List ℕ). number_at w8 (l ++ rest)) (sym (one_byte number few))
@@ -81,10 +81,10 @@ module _ (s : Layout) (a : Addition) (is : IsLayout s) (there : IsAddition s a)
       ∙ ap (λ (b : Bool). unless SchemaDiffers (not b) (Ok ((v, length (older s a).archives), rest))) may_have
 
   told : (v : Version) → HasMasksFor v (older s a)
-      → addition_told v s (flat_map archive_bytes (older s a).archives) ≡ Some a
+      → fitting_addition v s (flat_map archive_bytes (older s a).archives) ≡ Some a
   told v wide =
       let field = flat_map archive_bytes (older s a).archives in
-      found_is s (is_told v s field) a there (λ j. masks_tell v (older s a) wide j && had_its_own s a j)
+      found_is s (fits_addition v s field) a there (λ j. masks_tell v (older s a) wide j && had_its_own s a j)
       (λ b p e. addition_is_told s a b is there p (both (has_masks_for v (older s b)) (had_archives s field b) e).1)
 
   pub archives_again : (v : Version) (o : ℕ) (rest : List ℕ) → HasMasksFor v (older s a) → o < 2 ^ 16
@@ -93,7 +93,7 @@ module _ (s : Layout) (a : Addition) (is : IsLayout s) (there : IsAddition s a)
   unfolding archives_at
   archives_again v o rest wide low =
       let archives = flat_map archive_bytes (older s a).archives in
-      field.step _ (front_again (9 * length (older s a).archives) archives (to_be_bytes w16 o ++ rest)
+      field.step _ (prefix_again (9 * length (older s a).archives) archives (to_be_bytes w16 o ++ rest)
       (archives_len (older s a).archives))
       ∙ ap (λ (t : Option Addition). ok_or t SchemaDiffers >>= λ (b : Addition). number_at w16
       (to_be_bytes w16 o ++ rest) >>= λ (origin : ℕ × List ℕ). Ok ((b, origin.0), origin.1)) (told v wide)
@@ -134,7 +134,7 @@ module _ (s : Layout) (a : Addition) (is : IsLayout s) (there : IsAddition s a)
 digest_again : (digest rest : List ℕ) → length digest ≡ 32 → digest_at digest (digest ++ rest) ≡ Ok (tt, rest)
 unfolding digest_at
 digest_again digest rest len =
-    step _ (ap as_in_page (front_again 32 digest rest len))
+    step _ (ap as_in_page (prefix_again 32 digest rest len))
     ∙ ap (λ (b : Bool). unless BadDigest (not b) (Ok (tt, rest))) ((bytes_decides digest digest).1 refl)
 
 nothing_left : end_at [] ≡ Ok (tt, [])
@@ -178,7 +178,7 @@ module _ (s : Layout) (h : Head) (es : List NamedCell) (layout : IsLayout s) (th
       step _ (body_head digest)
       ∙ step _ (ap as_in_page (body_cells digest))
       ∙ ap (λ (l : List ℕ). digest_at (sha256 l) digest >>= λ (d : Unit {0} × List ℕ). end_at d.1 >>= λ end. Ok (h, es))
-      (front_is body digest (body ++ digest) refl)
+      (prefix_is body digest (body ++ digest) refl)
       ∙ step _ last
       ∙ step _ nothing_left
 
@@ -262,29 +262,30 @@ module _ (s t : Layout) (v : Version) (o : ℕ) (es : List NamedCell) (layout : 
   abbrev archives : List ℕ
   archives = flat_map archive_bytes t.archives
 
-  none_told : t.step ≡ s.step → addition_told v s archives ≡ None
-  none_told step = by_told (addition_told v s archives) refl
+  none_fits : t.step ≡ s.step → fitting_addition v s archives ≡ None
+  none_fits step = by_fitting (fitting_addition v s archives) refl
     where
-      by_told : (found : Option Addition) → addition_told v s archives ≡ found → addition_told v s archives ≡ None
-      by_told None e = e
-      by_told (Some a) e =
-          let f = found_addition s (is_told v s archives) a e in
+      by_fitting : (found : Option Addition) → fitting_addition v s archives ≡ found
+          → fitting_addition v s archives ≡ None
+      by_fitting None e = e
+      by_fitting (Some a) e =
+          let f = found_addition s (fits_addition v s archives) a e in
           let same = (both (has_masks_for v (older s a)) (had_archives s archives a) f.1).1 in
           absurd (missed a f.0 (had_is_older s t a layout other step same))
 
   archives_differ : t.step ≡ s.step → archives_at v s (length t.archives) (archives ++ from) ≡ Err SchemaDiffers
   unfolding archives_at
   archives_differ step =
-      field.step _ (front_again (9 * length t.archives) archives from (archives_len t.archives))
+      field.step _ (prefix_again (9 * length t.archives) archives from (archives_len t.archives))
       ∙ ap (λ (found : Option Addition). ok_or found SchemaDiffers >>= λ (a : Addition). number_at w16 from >>=
-      λ (origin : ℕ × List ℕ). Ok ((a, origin.0), origin.1)) (none_told step)
+      λ (origin : ℕ × List ℕ). Ok ((a, origin.0), origin.1)) (none_fits step)
 
   by_had : (b : Bool) → may_have_had s t.step (length t.archives) ≡ b
       → (as_in_page (unless SchemaDiffers (not b) (Ok ((v, length t.archives), archives ++ from))) >>= after_start s)
       ≡ Err why.SchemaDiffers
   by_had false e = refl
   by_had true e = ap (λ (r : Result ((Addition × ℕ) × List ℕ) PageFault). as_in_page r >>= after_archives v)
-      (archives_differ (had_told s t.step (length t.archives) e).step_is)
+      (archives_differ (had_fitting s t.step (length t.archives) e).step_is)
 
   pub other_schema : head_at s (snapshot_text v t o es) ≡ Err why.SchemaDiffers
   unfolding head_at snapshot_text

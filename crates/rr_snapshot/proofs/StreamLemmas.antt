@@ -1,4 +1,4 @@
--- A cell from a stream: a buffer whose front grows, and what its bytes say of all that the stream has.
+-- A cell from a stream: a buffer whose prefix grows, and what its bytes say of all that the stream has.
 use Rattle.std.proofs.Common.{◌≡◌, ℕ, ◌+◌, ◌<◌, ◌≤◌, Bool, true, false, List, [], ◌++◌, length, take, Option, None, Some, IfSome, Result, Ok, Err, refl, sym, ap, subst, ◌∙◌, ◌⊎◌, arith, inl, inr, append_assoc, length-take-le, take-add, take-take, take_at, drop_at}
 use Rattle.std.specs.Prelude.{IsOk, ◌-◌}
 use Rattle.std.specs.Int.{w16}
@@ -16,30 +16,30 @@ use Rattle.rr_page.specs.declared.fault.PageFault.TheVariants.{Short}
 use Rattle.rr_page.specs.declared.version.Version.{Version}
 use Rattle.rr_page.specs.Version.{fields_len}
 use Rattle.rr_page.specs.Reading.{number_at, cell_at}
-use Rattle.rr_page.proofs.FrontLemmas.{IsFront-number, IsFront-cell, extended}
+use Rattle.rr_page.proofs.PrefixLemmas.{ReadsPrefix-number, ReadsPrefix-cell, extended}
 use Rattle.rr_snapshot.specs.declared.fault.LoadFault.TheVariants as why
 use Rattle.rr_snapshot.specs.Fault.{load_fault}
 use Rattle.rr_snapshot.specs.SnapshotReading.{as_in_page}
 use Rattle.rr_snapshot.specs.Stream.{len_by, whole_len, Adds, HasRead}
 use Rattle.rr_snapshot.proofs.WidthLemmas.{HasWidth-number, HasWidth-cell, is_bad_len, short_len, bad_len, good_len, number_err}
 
--- the front of a buffer has n bytes more, once its part from a on is overwritten
+-- the prefix of a buffer has n bytes more, once its part from a on is overwritten
 pub filled_more : (xs ys : List ℕ) (a k n : ℕ) → a ≤ length xs → n ≤ length ys
     → take (a + n) (put_mid a k xs ys) ≡ take a xs ++ take n ys
 filled_more xs ys a k n le few =
     let all = put_mid a k xs ys in
-    let front = length-take-le a xs le in
+    let prefix = length-take-le a xs le in
     sym (take-take (a + n) (a + length ys) all (omega arith))
     ∙ ap (take (a + n)) (take-put_mid a k xs ys (a + length ys) refl le)
     ∙ take-add a n (take a xs ++ ys)
-    ∙ (λ i. take_at (take a xs) ys a front i ++ take n (drop_at (take a xs) ys a front i))
+    ∙ (λ i. take_at (take a xs) ys a prefix i ++ take n (drop_at (take a xs) ys a prefix i))
 
 -- the bytes read so far say what all bytes say
 pub record Decides (v : Version) (s : Layout) (bytes rest : List ℕ) : Type 0 where
   pub ok : (e : NamedCell) (r : List ℕ) → cell_at v s bytes ≡ Ok (e, r) → cell_at v s (bytes ++ rest) ≡ Ok (e, rest)
   pub err : (fault : PageFault) → cell_at v s bytes ≡ Err fault → cell_at v s (bytes ++ rest) ≡ Err fault
 
--- nothing follows, and no cell is at the front
+-- nothing follows, and no cell is at the beginning
 at_end : (v : Version) (s : Layout) (bytes rest : List ℕ) → rest ≡ [] → cell_at v s bytes ≡ Err Short
     → Decides v s bytes rest
 at_end v s bytes rest none short = record {
@@ -95,13 +95,13 @@ module _ (v : Version) (s : Layout) (head after rest : List ℕ)
 
   by_len : (n : ℕ) (hr : List ℕ) → number_at w16 head ≡ Ok (n, hr) → number_at w16 so_far ≡ Ok (n, hr ++ after)
       → (b : Bool) → is_bad_len v s head n ≡ b → Decides v s so_far rest
-  by_len n hr e0 e1 true bad = by_bad_len n (hr ++ after) e1 bad ((IsFront-cell v s).more so_far rest)
-  by_len n hr e0 e1 false good = by_cell n hr e0 e1 good ((IsFront-cell v s).more so_far rest)
+  by_len n hr e0 e1 true bad = by_bad_len n (hr ++ after) e1 bad ((ReadsPrefix-cell v s).more so_far rest)
+  by_len n hr e0 e1 false good = by_cell n hr e0 e1 good ((ReadsPrefix-cell v s).more so_far rest)
 
   grown : (n : ℕ) (hr : List ℕ) → number_at w16 head ≡ Ok (n, hr) → number_at w16 so_far ≡ Ok (n, hr ++ after)
   unfolding extended
   grown n hr e =
-      elim ((IsFront-number w16).more head after) [
+      elim ((ReadsPrefix-number w16).more head after) [
         | inl t ↦ absurd (cc (sym t ∙ e))
         | inr t ↦ t ∙ ap (extended after) e
       ]

@@ -23,11 +23,11 @@ use Rattle.rr_page.specs.declared.fault.PageFault.TheVariants.{BadMagic, SchemaD
 use Rattle.rr_page.specs.declared.version.Version.{Version}
 use Rattle.rr_page.specs.Laws.{AreBytes}
 use Rattle.rr_page.specs.PageReading.{version_at, cells_at}
-use Rattle.rr_page.specs.Reading.{front_at, number_at}
+use Rattle.rr_page.specs.Reading.{prefix_at, number_at}
 use Rattle.rr_page.specs.Version.{version_byte, HasMasksFor, has_masks_for}
 use Rattle.rr_page.proofs.CellsLemmas.{cells_take}
 use Rattle.rr_page.proofs.FieldLemmas as field
-use Rattle.rr_page.proofs.FieldLemmas.{not_false, and_then, Takes, front_takes, number_takes}
+use Rattle.rr_page.proofs.FieldLemmas.{not_false, and_then, Takes, prefix_takes, number_takes}
 use Rattle.rr_page.proofs.HeadLemmas.{both, masks_told, version_takes}
 use Rattle.rr_page.proofs.NumberLemmas.{wide8, wide16, wide32}
 use Rattle.rr_page.proofs.OrderLemmas.{rising_sorted}
@@ -36,9 +36,9 @@ use Rattle.rr_snapshot.specs.declared.fault.LoadFault.TheVariants.{BadOrigin, Ba
 use Rattle.rr_snapshot.specs.declared.heading.Head.{Head}
 use Rattle.rr_snapshot.specs.declared.heading.TheConstants.{MAX_SNAPSHOT_CELLS}
 use Rattle.rr_snapshot.specs.Snapshot.{IsSnapshot, IsSnapshotText, magic, head_text, body_text, snapshot_text}
-use Rattle.rr_snapshot.specs.SnapshotReading.{as_in_page, may_have_had, start_at, is_told, addition_told, archives_at, head_at, digest_at, end_at, bytes_before, cells_after, snapshot_at}
+use Rattle.rr_snapshot.specs.SnapshotReading.{as_in_page, may_have_had, start_at, fits_addition, fitting_addition, archives_at, head_at, digest_at, end_at, bytes_before, cells_after, snapshot_at}
 use Rattle.rr_snapshot.proofs.CellsLemmas.{page_ok}
-use Rattle.rr_snapshot.proofs.BodyLemmas.{front_is}
+use Rattle.rr_snapshot.proofs.BodyLemmas.{prefix_is}
 
 -- ---- steps that found no fault
 
@@ -71,8 +71,8 @@ pub record MayHaveHad (s : Layout) (step number : ℕ) : Type 0 where
   pub step_is : step ≡ s.step
   pub some : 1 ≤ number
 
-pub had_told : (s : Layout) (seconds number : ℕ) → may_have_had s seconds number ≡ true → MayHaveHad s seconds number
-had_told s seconds number e =
+pub had_fitting : (s : Layout) (seconds number : ℕ) → may_have_had s seconds number ≡ true → MayHaveHad s seconds number
+had_fitting s seconds number e =
     let first = both (seconds == s.step && not (number == 0))
     (number == length s.archives || number + 1 == length s.archives) e in
     let same = both (seconds == s.step) (not (number == 0)) first.0 in
@@ -95,7 +95,7 @@ start_takes : (s : Layout) (bytes : List ℕ) (v : Version) (n : ℕ) (rest : Li
     → Takes bytes (start_text v s.step n) rest × (1 ≤ n)
 unfolding start_at
 start_takes s bytes v n rest fits e =
-    field.with_ok (front_at 4 bytes) _ ((v, n), rest) e (λ start i0 e0.
+    field.with_ok (prefix_at 4 bytes) _ ((v, n), rest) e (λ start i0 e0.
     field.with_ok (unless BadMagic (not (pointwise nat_eq start.0 magic)) (version_at start.1)) _ ((v, n), rest) e0
     (λ version i1 e1.
     field.with_ok (number_at w32 version.1) _ ((v, n), rest) e1 (λ step i2 e2.
@@ -103,8 +103,8 @@ start_takes s bytes v n rest fits e =
     let g1 = field.unless_ok BadMagic (not (pointwise nat_eq start.0 magic)) (version_at start.1) version i1 in
     let g3 = field.unless_ok SchemaDiffers (not (may_have_had s step.0 number.0)) (Ok ((version.0, number.0), number.1))
     ((v, n), rest) e3 in
-    let had = had_told s step.0 number.0 (not_false (may_have_had s step.0 number.0) g3.0) in
-    let t0 = front_takes 4 bytes start.0 start.1 fits i0 in
+    let had = had_fitting s step.0 number.0 (not_false (may_have_had s step.0 number.0) g3.0) in
+    let t0 = prefix_takes 4 bytes start.0 start.1 fits i0 in
     let same0 = (bytes_decides start.0 magic).0 (not_false (pointwise nat_eq start.0 magic) g1.0) in
     let t1 = version_takes start.1 version.0 version.1 t0.0.rest_fits g1.1 in
     let t2 = number_takes w32 wide32 version.1 step.0 step.1 t1.rest_fits i2 in
@@ -130,14 +130,15 @@ archives_takes : (v : Version) (s : Layout) (n : ℕ) (bytes : List ℕ) (a : Ad
     × (n ≡ length (older s a).archives) × (o < 2 ^ 16) × IsAddition s a × HasMasksFor v (older s a)
 unfolding archives_at
 archives_takes v s n bytes a o rest fits e =
-    field.with_ok (front_at (9 * n) bytes) _ ((a, o), rest) e (λ own i0 e0.
-    field.with_ok (ok_or (addition_told v s own.0) SchemaDiffers) _ ((a, o), rest) e0 (λ told i1 e1.
+    field.with_ok (prefix_at (9 * n) bytes) _ ((a, o), rest) e (λ own i0 e0.
+    field.with_ok (ok_or (fitting_addition v s own.0) SchemaDiffers) _ ((a, o), rest) e0 (λ told i1 e1.
     field.with_ok (number_at w16 own.1) _ ((a, o), rest) e1 (λ origin i2 e2.
-    let found = found_addition s (is_told v s own.0) told (ok_or_is (addition_told v s own.0) SchemaDiffers told i1) in
+    let found = found_addition s (fits_addition v s own.0) told
+        (ok_or_is (fitting_addition v s own.0) SchemaDiffers told i1) in
     let is = both (has_masks_for v (older s told)) (had_archives s own.0 told) found.1 in
     let archives = flat_map archive_bytes (older s told).archives in
     let same : own.0 ≡ archives = (bytes_decides own.0 archives).0 is.1 in
-    let t0 = front_takes (9 * n) bytes own.0 own.1 fits i0 in
+    let t0 = prefix_takes (9 * n) bytes own.0 own.1 fits i0 in
     let t1 = number_takes w16 wide16 own.1 origin.0 origin.1 t0.0.rest_fits i2 in
     let many : n ≡ length (older s told).archives =
     omega (arith, t0.1, ap length same, archives_len (older s told).archives) in
@@ -210,9 +211,9 @@ digest_takes : (digest bytes rest : List ℕ) → AreBytes bytes → digest_at d
     → bytes ≡ digest ++ rest
 unfolding digest_at
 digest_takes digest bytes rest fits e =
-    with_ok (as_in_page (front_at 32 bytes)) _ (tt, rest) e (λ own i e0.
+    with_ok (as_in_page (prefix_at 32 bytes)) _ (tt, rest) e (λ own i e0.
     let g = unless_ok BadDigest (not (pointwise nat_eq own.0 digest)) (Ok (tt, own.1)) (tt, rest) e0 in
-    let t = front_takes 32 bytes own.0 own.1 fits (page_ok (front_at 32 bytes) own i) in
+    let t = prefix_takes 32 bytes own.0 own.1 fits (page_ok (prefix_at 32 bytes) own i) in
     let same = (bytes_decides own.0 digest).0 (not_false (pointwise nat_eq own.0 digest) g.0) in
     let left : own.1 ≡ rest = ap (λ (p : Unit {0} × List ℕ). p.1) (ok_is (tt, own.1) (tt, rest) g.1) in
     t.0.parts ∙ (λ i. same i ++ left i))
@@ -240,7 +241,7 @@ snapshot_takes s bytes h es fits e =
     let body : List ℕ = body_text v t o cells.0 in
     let t2 : Takes bytes body cells.1 = and_then (subst (λ (n : ℕ). Takes bytes (head_text v t o n) head.1)
     (sym t1.many) t0.takes) t1.takes in
-    let before = front_is body cells.1 bytes t2.parts in
+    let before = prefix_is body cells.1 bytes t2.parts in
     let parts = digest_takes (sha256 (bytes_before cells.1 bytes)) cells.1 digest.1 t2.rest_fits i2 in
     let none = end_takes digest.1 end.1 i3 in
     let text : bytes ≡ body ++ sha256 body = t2.parts

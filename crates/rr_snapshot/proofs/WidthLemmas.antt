@@ -13,21 +13,21 @@ use Rattle.rr_page.specs.declared.fault.PageFault.{PageFault}
 use Rattle.rr_page.specs.declared.fault.PageFault.TheVariants.{Short, BadKey, BadArchive, BadContribution}
 use Rattle.rr_page.specs.declared.version.Version.{Version}
 use Rattle.rr_page.specs.Version.{mask_width}
-use Rattle.rr_page.specs.Reading.{front_at, number_at, signed_at, key_at, archive_at, contribution_at, cell_at}
-use Rattle.rr_page.proofs.FrontLemmas.{Reader}
+use Rattle.rr_page.specs.Reading.{prefix_at, number_at, signed_at, key_at, archive_at, contribution_at, cell_at}
+use Rattle.rr_page.proofs.PrefixLemmas.{Reader}
 
 -- `k` bytes are taken, and fewer are there where it is Short
 pub record HasWidth {A : Type 0} (k : ℕ) (r : Reader A) : Type 0 where
   pub taken : (bytes : List ℕ) (x : A × List ℕ) → r bytes ≡ Ok x → length x.1 + k ≡ length bytes
   pub short : (bytes : List ℕ) → r bytes ≡ Err Short → length bytes < k
 
-pub HasWidth-field : (len : ℕ) → HasWidth len (front_at len)
+pub HasWidth-field : (len : ℕ) → HasWidth len (prefix_at len)
 HasWidth-field len = record {
   taken = λ bytes x e. by_len bytes x (ltb (length bytes) len) refl e;
   short = λ bytes e. is_short bytes (ltb (length bytes) len) refl e;
 }
   where
-    by_len : (bytes : List ℕ) (x : List ℕ × List ℕ) (b : Bool) → ltb (length bytes) len ≡ b → front_at len bytes ≡ Ok x
+    by_len : (bytes : List ℕ) (x : List ℕ × List ℕ) (b : Bool) → ltb (length bytes) len ≡ b → prefix_at len bytes ≡ Ok x
         → length x.1 + len ≡ length bytes
     by_len bytes x true e is = let h = sym (ap (λ (b : Bool). unless Short b (Ok (take len bytes, drop len bytes))) e)
         ∙ is in absurd (cc h)
@@ -37,7 +37,7 @@ HasWidth-field len = record {
         let same : (take len bytes, drop len bytes) ≡ x = cc h in
         subst (λ (p : List ℕ × List ℕ). length p.1 + len ≡ length bytes) same (omega (arith, length-drop len bytes))
 
-    is_short : (bytes : List ℕ) (b : Bool) → ltb (length bytes) len ≡ b → front_at len bytes ≡ Err Short
+    is_short : (bytes : List ℕ) (b : Bool) → ltb (length bytes) len ≡ b → prefix_at len bytes ≡ Err Short
         → length bytes < len
     is_short bytes true e is = ltb-true _ _ e
     is_short bytes false e is = let h = sym (ap (λ (b : Bool). unless Short b (Ok (take len bytes, drop len bytes))) e)
@@ -84,7 +84,7 @@ pub HasWidth-done : {A : Type 0} (x : A) → HasWidth 0 (λ bytes. Ok (x, bytes)
 HasWidth-done x = HasWidth-last BadKey false x (λ e. absurd (cc e))
 
 pub HasWidth-number : (w : Width) → HasWidth (byte_len w) (number_at w)
-HasWidth-number w = same (HasWidth-then (byte_len w) 0 (front_at (byte_len w))
+HasWidth-number w = same (HasWidth-then (byte_len w) 0 (prefix_at (byte_len w))
     (λ field. Ok (from_be_bytes w field.0, field.1)) (HasWidth-field (byte_len w))
     (λ a. HasWidth-done (from_be_bytes w a)))
   where
@@ -92,7 +92,7 @@ HasWidth-number w = same (HasWidth-then (byte_len w) 0 (front_at (byte_len w))
     same p = subst (λ k. HasWidth k (number_at w)) (omega arith) p
 
 HasWidth-signed : (w : Width) → HasWidth (byte_len w) (signed_at w)
-HasWidth-signed w = same (HasWidth-then (byte_len w) 0 (front_at (byte_len w))
+HasWidth-signed w = same (HasWidth-then (byte_len w) 0 (prefix_at (byte_len w))
     (λ field. Ok (cast_signed w (from_be_bytes w field.0), field.1)) (HasWidth-field (byte_len w))
     (λ a. HasWidth-done (cast_signed w (from_be_bytes w a))))
   where
@@ -153,14 +153,14 @@ HasWidth-after_key v s key =
     (λ e. absurd (cc e))))))
 
 pub cell_after_len : Version → Layout → ℕ → List ℕ → Result (NamedCell × List ℕ) PageFault
-cell_after_len v s n bytes = (front_at n bytes >>= keyed) >>= after_key v s
+cell_after_len v s n bytes = (prefix_at n bytes >>= keyed) >>= after_key v s
 
 pub HasWidth-cell : (v : Version) (s : Layout) (n : ℕ)
     → HasWidth (n + 0 + (1 + (8 + (2 + (64 + byte_len (mask_width v) + 0))))) (cell_after_len v s n)
 unfolding cell_after_len
 HasWidth-cell v s n =
-    HasWidth-then (n + 0) _ (λ bytes. front_at n bytes >>= keyed) (after_key v s)
-    (HasWidth-then n 0 (front_at n) keyed (HasWidth-field n)
+    HasWidth-then (n + 0) _ (λ bytes. prefix_at n bytes >>= keyed) (after_key v s)
+    (HasWidth-then n 0 (prefix_at n) keyed (HasWidth-field n)
     (λ key. HasWidth-last BadKey (not (is_key_text key)) key (λ e. absurd (cc e))))
     (HasWidth-after_key v s)
 
@@ -171,23 +171,23 @@ module _ (v : Version) (s : Layout) (bytes : List ℕ) where
   pub short_len : number_at w16 bytes ≡ Err Short → cell_at v s bytes ≡ Err Short
   unfolding cell_at key_at
   short_len e = ap (λ (r : Result (ℕ × List ℕ) PageFault).
-      (r >>= λ (n : ℕ × List ℕ). unless BadKey (is_bad_len n.0) (front_at n.0 n.1) >>= keyed) >>= after_key v s) e
+      (r >>= λ (n : ℕ × List ℕ). unless BadKey (is_bad_len n.0) (prefix_at n.0 n.1) >>= keyed) >>= after_key v s) e
 
   pub bad_len : (n : ℕ) (rest : List ℕ) → number_at w16 bytes ≡ Ok (n, rest) → is_bad_len n ≡ true
       → cell_at v s bytes ≡ Err BadKey
   unfolding cell_at key_at
   bad_len n rest e out =
       ap (λ (r : Result (ℕ × List ℕ) PageFault). (r >>= λ (m : ℕ × List ℕ). unless BadKey (is_bad_len m.0)
-      (front_at m.0 m.1) >>= keyed) >>= after_key v s) e
-      ∙ ap (λ (b : Bool). (unless BadKey b (front_at n rest) >>= keyed) >>= after_key v s) out
+      (prefix_at m.0 m.1) >>= keyed) >>= after_key v s) e
+      ∙ ap (λ (b : Bool). (unless BadKey b (prefix_at n rest) >>= keyed) >>= after_key v s) out
 
   pub good_len : (n : ℕ) (rest : List ℕ) → number_at w16 bytes ≡ Ok (n, rest) → is_bad_len n ≡ false
       → cell_at v s bytes ≡ cell_after_len v s n rest
   unfolding cell_at key_at cell_after_len
   good_len n rest e within =
       ap (λ (r : Result (ℕ × List ℕ) PageFault). (r >>= λ (m : ℕ × List ℕ). unless BadKey (is_bad_len m.0)
-      (front_at m.0 m.1) >>= keyed) >>= after_key v s) e
-      ∙ ap (λ (b : Bool). (unless BadKey b (front_at n rest) >>= keyed) >>= after_key v s) within
+      (prefix_at m.0 m.1) >>= keyed) >>= after_key v s) e
+      ∙ ap (λ (b : Bool). (unless BadKey b (prefix_at n rest) >>= keyed) >>= after_key v s) within
 
 pub number_err : (w : Width) (bytes : List ℕ) (fault : PageFault) → number_at w bytes ≡ Err fault
     → number_at w bytes ≡ Err Short

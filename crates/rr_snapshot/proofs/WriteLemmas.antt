@@ -24,20 +24,20 @@ text_more text es i e at =
     from_zero : (k : ℕ) → 0 + k ≡ k
     from_zero k = omega arith
 
--- the text of some cells at the front begins that of all
+-- the text of some cells at the beginning begins that of all
 pub text_parts : (text : NamedCell → List ℕ) (es : List NamedCell) (i : ℕ)
     → flat_map text (take i es) ++ flat_map text (drop i es) ≡ flat_map text es
 text_parts text es i = sym (flat_map-append text (take i es) (drop i es)) ∙ ap (flat_map text) (take-append-drop i es)
 
--- what was written whole is a front
-pub whole_is_front : (old new : Option (List ℕ)) (text : List ℕ) → Appends old new text → AppendsPrefix old new text
-whole_is_front old new text whole = (text, [], sym (append-nil text), whole)
+-- what was written whole is a prefix
+pub whole_is_prefix : (old new : Option (List ℕ)) (text : List ℕ) → Appends old new text → AppendsPrefix old new text
+whole_is_prefix old new text whole = (text, [], sym (append-nil text), whole)
 
--- some cells at the front were written, and then a front of the next
-pub cells_front : (text : NamedCell → List ℕ) (es : List NamedCell) (i : ℕ) (e : NamedCell) (a b c : Option (List ℕ))
+-- some cells at the beginning were written, and then a prefix of the next
+pub cells_prefix : (text : NamedCell → List ℕ) (es : List NamedCell) (i : ℕ) (e : NamedCell) (a b c : Option (List ℕ))
     → slice_get es i ≡ Some e → Appends a b (flat_map text (take i es)) → AppendsPrefix b c (text e)
     → AppendsPrefix a c (flat_map text es)
-cells_front text es i e a b c at done part =
+cells_prefix text es i e a b c at done part =
     subst (AppendsPrefix a c) (ap (λ (l : List ℕ). l ++ flat_map text (drop (i + 1) es))
     (sym (text_more text es i e at)) ∙ text_parts text es (i + 1))
     (prefix_before a c (flat_map text (take i es) ++ text e) (flat_map text (drop (i + 1) es))

@@ -13,7 +13,7 @@ use Rattle.rr_page.specs.declared.fault.PageFault.{PageFault}
 use Rattle.rr_page.specs.declared.fault.PageFault.TheVariants as page
 use Rattle.rr_page.specs.declared.version.Version.{Version}
 use Rattle.rr_page.specs.PageReading.{version_at, cells_at}
-use Rattle.rr_page.specs.Reading.{front_at, number_at}
+use Rattle.rr_page.specs.Reading.{prefix_at, number_at}
 use Rattle.rr_page.specs.Version.{has_masks_for}
 use Rattle.rr_snapshot.specs.declared.fault.LoadFault.{LoadFault}
 use Rattle.rr_snapshot.specs.declared.fault.LoadFault.TheVariants.{BadOrigin, BadDigest, TrailingBytes}
@@ -39,19 +39,19 @@ pub record IsArchiveCount (s : Layout) (number : ℕ) : Type 0 where
 -- the version, and how many archives the schema has, and what follows them
 unfoldable pub start_at : Layout → List ℕ → Result ((Version × ℕ) × List ℕ) PageFault
 start_at s bytes = do
-  start ← front_at (length magic) bytes
+  start ← prefix_at (length magic) bytes
   version ← unless page.BadMagic (not (pointwise nat_eq start.0 magic)) (version_at start.1)
   step ← number_at w32 version.1
   number ← number_at w8 step.1
   unless page.SchemaDiffers (not (may_have_had s step.0 number.0)) (Ok ((version.0, number.0), number.1))
 
 -- whether these are the bytes of the archives before an addition, and the version has masks for them
-abbrev pub is_told : Version → Layout → List ℕ → Addition → Bool
-is_told v s field a = has_masks_for v (older s a) && had_archives s field a
+abbrev pub fits_addition : Version → Layout → List ℕ → Addition → Bool
+fits_addition v s field a = has_masks_for v (older s a) && had_archives s field a
 
 -- so what was added to the schema since
-abbrev pub addition_told : Version → Layout → List ℕ → Option Addition
-addition_told v s field = find (is_told v s field) (additions s)
+abbrev pub fitting_addition : Version → Layout → List ℕ → Option Addition
+fitting_addition v s field = find (fits_addition v s field) (additions s)
 
 -- an addition to as many archives as this
 pub record IsAdditionTo (s : Layout) (number : ℕ) (a : Addition) : Type 0 where
@@ -61,8 +61,8 @@ pub record IsAdditionTo (s : Layout) (number : ℕ) (a : Addition) : Type 0 wher
 -- what was added since there were so many archives, and the origin, and what follows them
 unfoldable pub archives_at : Version → Layout → ℕ → List ℕ → Result ((Addition × ℕ) × List ℕ) PageFault
 archives_at v s number bytes = do
-  field ← front_at (9 * number) bytes
-  addition ← ok_or (addition_told v s field.0) page.SchemaDiffers
+  field ← prefix_at (9 * number) bytes
+  addition ← ok_or (fitting_addition v s field.0) page.SchemaDiffers
   origin ← number_at w16 field.1
   Ok ((addition, origin.0), origin.1)
 
@@ -77,7 +77,7 @@ head_at s bytes = do
 -- a digest, and what follows it
 unfoldable pub digest_at : List ℕ → List ℕ → Result (Unit {0} × List ℕ) LoadFault
 digest_at digest bytes = do
-  field ← as_in_page (front_at 32 bytes)
+  field ← as_in_page (prefix_at 32 bytes)
   unless BadDigest (not (pointwise nat_eq field.0 digest)) (Ok (tt, field.1))
 
 -- no more bytes

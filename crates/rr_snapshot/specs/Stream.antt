@@ -25,9 +25,9 @@ len_by v bytes (Err fault) = length bytes
 abbrev pub whole_len : Version → List ℕ → ℕ
 whole_len v bytes = len_by v bytes (number_at w16 bytes)
 
--- bytes were taken from the front of what a reader had, where that is known, and added after those that were there
+-- bytes were taken from the beginning of what a reader had, where that is known, and added after those that were there
 abbrev pub Adds : Option (List ℕ) → Option (List ℕ) → List ℕ → List ℕ → Type 0
-Adds old new before after = (front : List ℕ) × (after ≡ before ++ front) × Consumes old new front
+Adds old new before after = (prefix : List ℕ) × (after ≡ before ++ prefix) × Consumes old new prefix
 
 -- bytes were taken after the first `filled` ones of a buffer, up to `len` of them or the end of the input
 pub record FillsUpTo {R E : Type 0} (filled len : ℕ) (remaining : R → Option (List ℕ)) (input input_new : Counted R)
@@ -57,11 +57,11 @@ abbrev pub Digests : Option (List ℕ) → Option (List ℕ) → Sha256 → Sha2
 Digests old new before after = (taken : List ℕ) × Consumes old new taken
     × ((m : List ℕ) → Holds256 before m → Holds256 after (m ++ taken))
 
--- what a call did with the reader that it loads from: it took some bytes from the front, or none, and says that a read
+-- what a call did with the reader that it loads from: it took some bytes from the prefix, or none, and says that a read
 -- failed only if one did
 pub record LoadsFrom {R X : Type 0} (remaining : R → Option (List ℕ)) (old new : Counted R)
     (result : Result X LoadFault) : Type 0 where
-  pub front : ReadsSome remaining old new
+  pub prefix : ReadsSome remaining old new
   pub failures_never_fall : KeepsFailures old new
   pub failed : result ≡ Err ReadFailed → HasFailed old new
 

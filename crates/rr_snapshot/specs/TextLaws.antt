@@ -28,8 +28,8 @@ NoSnapshotBeginsAnother =
     → (v ≡ w) × (s ≡ t) × (o ≡ p) × (es ≡ fs) × (x ≡ y)
 
 -- the bytes of a snapshot without some at the end are Short
-abbrev pub SnapshotFrontsAreShort : Type 0
-SnapshotFrontsAreShort =
-    (s : Layout) (head : Head) (es : List NamedCell) (bytes front rest : List ℕ) → IsLayout s
+abbrev pub SnapshotPrefixesAreShort : Type 0
+SnapshotPrefixesAreShort =
+    (s : Layout) (head : Head) (es : List NamedCell) (bytes prefix rest : List ℕ) → IsLayout s
     → IsSnapshot (older s head.addition) head.origin es → IsSnapshotText s head es bytes
-    → bytes ≡ front ++ rest → 1 ≤ length rest → snapshot_at s front ≡ Err Short
+    → bytes ≡ prefix ++ rest → 1 ≤ length rest → snapshot_at s prefix ≡ Err Short

@@ -16,7 +16,7 @@ const DIGEST_LEN: usize = 32;
 
 const _: () = prove!(DIGEST_LEN == 32);
 
-/// Reads a digest at the front of what the input has, which must be this one.
+/// Reads a digest at the beginning of what the input has, which must be this one.
 pub(crate) fn digest_from<R: Read>(
     input: &mut Counted<R>,
     digest: &[u8; DIGEST_LEN],

@@ -10,7 +10,7 @@ ghost use Rattle.rr_schema.specs.declared.added.Addition.TheVariants.{Archive};
 ghost use Rattle.rr_page.specs.Found.{Finds};
 ghost use Rattle.rr_page.specs.Reading.{number_at};
 ghost use Rattle.rr_snapshot.specs.Stream.{DigestsPiece, StreamGives};
-ghost use Rattle.rr_snapshot.specs.SnapshotReading.{IsAdditionTo, IsArchiveCount, as_in_page, may_have_had, start_at, is_told, addition_told, archives_at};
+ghost use Rattle.rr_snapshot.specs.SnapshotReading.{IsAdditionTo, IsArchiveCount, as_in_page, may_have_had, start_at, fits_addition, fitting_addition, archives_at};
 
 use crate::fault::LoadFault;
 use crate::stream::fill_up_to;
@@ -74,7 +74,7 @@ fn start_of<'a>(schema: &Schema, bytes: &'a [u8]) -> Result<(Version, u8, &'a [u
     Ok((version, number, rest))
 }
 
-/// The version and the number of archives at the front of what the input has.
+/// The version and the number of archives at the beginning of what the input has.
 pub(crate) fn start_from<R: Read>(
     input: &mut Counted<R>,
     schema: &Schema,
@@ -95,21 +95,21 @@ pub(crate) fn start_from<R: Read>(
 
 /// Whether these are the bytes of the archives before an addition, and the version has masks for
 /// them.
-fn is_told(version: Version, schema: &Schema, field: &[u8], addition: Addition) -> bool
+fn fits_addition(version: Version, schema: &Schema, field: &[u8], addition: Addition) -> bool
     requires { IsAddition schema.now addition }
-    ensures { result ≡ is_told version schema.now field.now addition }
+    ensures { result ≡ fits_addition version schema.now field.now addition }
 {
     version.had_masks_for(schema, addition) && schema.had_archives(addition, field)
 }
 
 /// The number of the archive that was added since these were the bytes of the archives, if one was.
-fn archive_told(version: Version, schema: &Schema, field: &[u8]) -> Option<u8>
-    ensures { option_map Archive result ≡ find (is_told version schema.now field.now)
+fn fitting_archive(version: Version, schema: &Schema, field: &[u8]) -> Option<u8>
+    ensures { option_map Archive result ≡ find (fits_addition version schema.now field.now)
         (map Archive (range_with_len 0 (length schema.now.archives))) }
 {
     let count = schema.archives().len() as u8;
     for number in 0..count {
-        if is_told(version, schema, field, Addition::Archive(number)) {
+        if fits_addition(version, schema, field, Addition::Archive(number)) {
             return Some(number);
         }
     }
@@ -117,13 +117,13 @@ fn archive_told(version: Version, schema: &Schema, field: &[u8]) -> Option<u8>
 }
 
 /// What was added to the schema since these were the bytes of its archives.
-fn addition_told(version: Version, schema: &Schema, field: &[u8]) -> Option<Addition>
-    ensures { result ≡ addition_told version schema.now field.now }
+fn fitting_addition(version: Version, schema: &Schema, field: &[u8]) -> Option<Addition>
+    ensures { result ≡ fitting_addition version schema.now field.now }
 {
-    if is_told(version, schema, field, Addition::Nothing) {
+    if fits_addition(version, schema, field, Addition::Nothing) {
         return Some(Addition::Nothing);
     }
-    archive_told(version, schema, field).map(|number: u8| Addition::Archive(number))
+    fitting_archive(version, schema, field).map(|number: u8| Addition::Archive(number))
 }
 
 /// What was added since there were so many archives, and the origin, and what follows them. No
@@ -140,15 +140,15 @@ fn archives_of<'a>(
     ensures addition { IfOk result (λ x. IsAdditionTo schema.now number x.0) }
 {
     let (field, rest) = bytes_at(bytes, ARCHIVE_LEN * number as usize)?;
-    let Some(addition) = addition_told(version, schema, field) else {
+    let Some(addition) = fitting_addition(version, schema, field) else {
         return Err(PageFault::SchemaDiffers);
     };
     let (origin, rest) = u16_at(rest)?;
     Ok((addition, origin, rest))
 }
 
-/// What was added since there were so many archives, and the origin, at the front of what the input
-/// has.
+/// What was added since there were so many archives, and the origin, at the beginning of what the
+/// input has.
 pub(crate) fn archives_from<R: Read>(
     input: &mut Counted<R>,
     version: Version,
@@ -173,7 +173,7 @@ pub(crate) fn archives_from<R: Read>(
     Ok((addition, origin))
 }
 
-/// The number of cells at the front of what the input has.
+/// The number of cells at the beginning of what the input has.
 pub(crate) fn count_from<R: Read>(
     input: &mut Counted<R>,
     hasher: &mut Sha256,

@@ -1,6 +1,6 @@
 //! The laws of the texts of snapshots and of what was saved, with no work to do: the functions have
 //! empty bodies.
-ghost use Rattle.rr_snapshot.specs.TextLaws.{SnapshotsAreTheirText, NoSnapshotBeginsAnother, SnapshotFrontsAreShort};
+ghost use Rattle.rr_snapshot.specs.TextLaws.{SnapshotsAreTheirText, NoSnapshotBeginsAnother, SnapshotPrefixesAreShort};
 ghost use Rattle.rr_snapshot.specs.Laws.{SavedIsLoaded, SavedIsRaised, OtherSchemasDiffer};
 
 /// A snapshot is read exactly where the bytes are the text of a snapshot of the schema.
@@ -14,8 +14,8 @@ pub fn no_snapshot_begins_another()
 {}
 
 /// The bytes of a snapshot that is cut short are refused as `Short`, wherever it is cut.
-pub fn fronts_are_short()
-    ensures { SnapshotFrontsAreShort }
+pub fn prefixes_are_short()
+    ensures { SnapshotPrefixesAreShort }
 {}
 
 /// What a replica was saved as is loaded, under its schema and an origin that is neither its own

@@ -165,7 +165,7 @@ fn load_into<A: Cells, R: Read>(
 /// the one before; `BadDigest`; `TrailingBytes`; and last `OriginUsed` where the new origin is that
 /// of the snapshot or of one of its cells, those past the horizon too. `Memory` comes before
 /// anything is read, after a good head, or at a good cell that follows good ones, and never after
-/// the cells. A refused load gives no replica, and a front of the input has been read. The
+/// the cells. A refused load gives no replica, and a prefix of the input has been read. The
 /// cost is that of joining the cells, and linear in the bytes.
 pub fn load<A: Cells, R: Read>(
     alloc: Global,

@@ -50,7 +50,7 @@ fn write_cells<A: Cells, W: Write>(
 /// the replica there is one cell's bytes in memory at a time.
 ///
 /// Refused as `TooManyCells` where there are more than 4,294,967,295 cells, and then nothing is
-/// written; as `WriteFailed` where the writer fails; and as `Memory`. After a refusal a front of
+/// written; as `WriteFailed` where the writer fails; and as `Memory`. After a refusal a prefix of
 /// the snapshot was written. The cost is linear in the series and in the bytes.
 pub fn save<A: Cells, W: Write>(
     alloc: Global,

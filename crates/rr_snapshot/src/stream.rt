@@ -38,25 +38,25 @@ fn fields_len(version: Version) -> usize
 }
 
 /// How many bytes the cell has that begins so; where no cell begins so, as many as there are.
-fn cell_len(front: &[u8], version: Version) -> usize
-    ensures value { result ≡ whole_len version front.now }
-    ensures more { length front.now ≤ 2 → length front.now ≤ result }
-    ensures fits { length front.now ≤ 2 → result ≤ MAX_CELL_LEN }
+fn cell_len(prefix: &[u8], version: Version) -> usize
+    ensures value { result ≡ whole_len version prefix.now }
+    ensures more { length prefix.now ≤ 2 → length prefix.now ≤ result }
+    ensures fits { length prefix.now ≤ 2 → result ≤ MAX_CELL_LEN }
 {
-    match u16_at(front) {
+    match u16_at(prefix) {
         Ok((len, _)) => {
             let len = len as usize;
             if len == 0 || len > MAX_KEY_TEXT {
-                return front.len();
+                return prefix.len();
             }
             fields_len(version) + len
         }
-        Err(_) => front.len(),
+        Err(_) => prefix.len(),
     }
 }
 
 /// Reads after the first bytes of a buffer, up to a length or the end of the input, and answers how
-/// many bytes are then in its front.
+/// many bytes are then in its prefix.
 pub(crate) fn fill_up_to<R: Read>(
     input: &mut Counted<R>,
     buffer: &mut [u8],
@@ -71,9 +71,9 @@ pub(crate) fn fill_up_to<R: Read>(
     Ok(filled + more)
 }
 
-/// The cell at the front of what the input has, and how many bytes it has, which are in the front
-/// of the buffer. The input is read in two pieces, and no byte after the cell is taken. `Memory`
-/// comes only where a cell is there.
+/// The cell at the beginning of what the input has, and how many bytes it has, which are in the
+/// prefix of the buffer. The input is read in two pieces, and no byte after the cell is taken.
+/// `Memory` comes only where a cell is there.
 pub(crate) fn cell_from<R: Read>(
     alloc: Global,
     input: &mut Counted<R>,

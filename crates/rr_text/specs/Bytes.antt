@@ -1,4 +1,4 @@
--- Bytes of texts: their order, what is at their front, and which of them end a line.
+-- Bytes of texts: their order, what is at their beginning, and which of them end a line.
 use Rattle.std.specs.Prelude.{ℕ, Bool, false, ◌||◌, ◌==◌, List, [], ◌∷◌, Option, None, Some, IsFalse, if◌then◌else◌}
 use Rattle.std.specs.Cmp.Lexicographic.{slice_cmp}
 use Rattle.std.specs.List.{list_any}
@@ -19,7 +19,7 @@ abbrev pub begins : ℕ → List ℕ → Bool
 begins byte [] = false
 begins byte (first ∷ rest) = first == byte
 
--- what follows a byte at the front
+-- what follows a byte at the beginning
 abbrev pub strip : ℕ → List ℕ → Option (List ℕ)
 strip byte [] = None
 strip byte (first ∷ rest) = if first == byte then Some rest else None

@@ -3,3 +3,4 @@ pub mod Options
 pub mod Bytes
 pub mod Text
 pub mod Digits
+pub mod Refusal

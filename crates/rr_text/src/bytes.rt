@@ -44,14 +44,14 @@ const _: () = prove!(HASH == 35);
 
 const _: () = prove!(MINUS == 45);
 
-/// Whether a byte is at the front of the text.
+/// Whether a byte is at the beginning of the text.
 pub fn begins(byte: u8, text: &[u8]) -> bool
     ensures { result ≡ begins byte text.now }
 {
     matches!(text, [first, ..] if *first == byte)
 }
 
-/// The text after a byte at its front.
+/// The text after a byte at its beginning.
 pub fn strip(byte: u8, text: &[u8]) -> Option<&[u8]>
     ensures { option_map (λ rest. rest.now) result ≡ strip byte text.now }
 {

@@ -100,11 +100,11 @@ impl<A: Drop> Slip<A> {
 
     /// Waits until the body is begun with, for at most so long, and takes it back if it isn't. The
     /// answer is whether it was begun with.
-    pub fn withdraw<R: Wait + Clock>(&self, rt: &R, patience: Duration) -> bool {
+    pub fn withdraw<R: Wait + Clock>(&self, rt: &R, timeout: Duration) -> bool {
         let board: &Board<A> = &self.board;
         let (mut held, _timed_out) = board
             .changed
-            .wait_timeout_while(rt, board.fate.lock(rt), patience, |fate| {
+            .wait_timeout_while(rt, board.fate.lock(rt), timeout, |fate| {
                 matches!(*fate, Fate::Waits)
             });
         if matches!(*held, Fate::Waits) {
@@ -115,11 +115,11 @@ impl<A: Drop> Slip<A> {
     }
 
     /// Waits for the answer, for at most so long.
-    pub fn wait<R: Wait + Clock>(&self, rt: &R, patience: Duration) -> Told<A> {
+    pub fn wait<R: Wait + Clock>(&self, rt: &R, timeout: Duration) -> Told<A> {
         let board: &Board<A> = &self.board;
         let (mut held, _timed_out) = board
             .changed
-            .wait_timeout_while(rt, board.fate.lock(rt), patience, |fate| {
+            .wait_timeout_while(rt, board.fate.lock(rt), timeout, |fate| {
                 matches!(*fate, Fate::Begun)
             });
         match mem::replace(&mut *held, Fate::Unanswered) {

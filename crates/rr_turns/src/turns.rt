@@ -31,10 +31,10 @@ impl<B: Drop, C: Drop> Turns<B, C> {
     }
 
     /// Waits for the one whose turn it is, for at most so long.
-    pub fn take<R: Wait + Clock>(&self, rt: &R, patience: Duration) -> Next<B, C> {
+    pub fn take<R: Wait + Clock>(&self, rt: &R, timeout: Duration) -> Next<B, C> {
         let (mut places, _timed_out) = self
             .changed
-            .wait_timeout_while(rt, self.places.lock(rt), patience, |places| {
+            .wait_timeout_while(rt, self.places.lock(rt), timeout, |places| {
                 places.is_empty()
             });
         let taken = places.take();
@@ -47,10 +47,10 @@ impl<B: Drop, C: Drop> Turns<B, C> {
 
     /// Takes a body in, once it has a place; it is dropped if it has none in so long, or if there
     /// is no memory for it. The answer is whether it is in.
-    pub fn put_body<R: Wait + Clock>(&self, rt: &R, body: B, patience: Duration) -> bool {
+    pub fn put_body<R: Wait + Clock>(&self, rt: &R, body: B, timeout: Duration) -> bool {
         let (mut places, _timed_out) = self
             .changed
-            .wait_timeout_while(rt, self.places.lock(rt), patience, |places| {
+            .wait_timeout_while(rt, self.places.lock(rt), timeout, |places| {
                 places.lacks_body_place()
             });
         let is_in = places.put_body(body);
@@ -60,10 +60,10 @@ impl<B: Drop, C: Drop> Turns<B, C> {
 
     /// Waits for a place for a connection, for at most so long, and answers whether there is one.
     /// It stays for whoever alone puts connections in.
-    pub fn has_place<R: Wait + Clock>(&self, rt: &R, patience: Duration) -> bool {
+    pub fn has_place<R: Wait + Clock>(&self, rt: &R, timeout: Duration) -> bool {
         let (places, _timed_out) = self
             .changed
-            .wait_timeout_while(rt, self.places.lock(rt), patience, |places| {
+            .wait_timeout_while(rt, self.places.lock(rt), timeout, |places| {
                 places.lacks_connection_place()
             });
         !places.lacks_connection_place()

@@ -8,7 +8,8 @@
 //!
 //! [`read_words`] makes an [`Order`] of words, or a [`WordsFault`] with the text for whoever wrote
 //! them. In `specs/` what words ask for (`Words.antt`) is a function of the words and of the rules
-//! that `clap` reads them by ([`rr_command_line`]); [`laws`] says what it makes of written-out ones.
+//! that `clap` reads them by ([`rr_command_line`]); [`laws`] says what it makes of written-out
+//! ones.
 #![tactic(auto)]
 
 mod fault;

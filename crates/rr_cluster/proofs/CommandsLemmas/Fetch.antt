@@ -45,15 +45,15 @@ module _ {K : Type 0} (model : Model K) (m : State K) (name : List ℕ) (words :
 
 -- what follows a request that is read, or refused
 abbrev answered : ReplicaWithRoom → Result Request RequestFault → Result (List ℕ) CommandFault
-answered h said = request_of said >>= λ q. Ok (cells_text h.schema h.cells q)
+answered h parsed = request_of parsed >>= λ q. Ok (cells_text h.schema h.cells q)
 
 refused : {X : Type 0} (view : X → Request) (h : ReplicaWithRoom) (fault : RequestFault) (stop : Stop)
-    (said : Result Request RequestFault)
-    → GivesUnless Memory view (Err fault) said → IsStopOf Memory Fetch fault stop
-    → Gives {A = List ℕ} (λ text. text) (Err stop) (answered h said)
-refused view h fault stop said due (inl memory) = rw memory.1 tt
-refused view h fault stop said (inl memory) (inr other) = absurd (other.0 memory)
-refused view h fault stop said (inr due) (inr other) = rw (other.1, due) refl
+    (parsed : Result Request RequestFault)
+    → GivesUnless Memory view (Err fault) parsed → IsStopOf Memory Fetch fault stop
+    → Gives {A = List ℕ} (λ text. text) (Err stop) (answered h parsed)
+refused view h fault stop parsed due (inl memory) = rw memory.1 tt
+refused view h fault stop parsed (inl memory) (inr other) = absurd (other.0 memory)
+refused view h fault stop parsed (inr due) (inr other) = rw (other.1, due) refl
 
 module _ {A : Type 0} {g : Ghosts A} (c : Cluster A g) (m : State Cells) (is : Represents c m) (name : List ℕ)
     (words : Parts) (h : ReplicaWithRoom) (here : Some h ≡ replica_at c.nodes name) where
@@ -69,7 +69,7 @@ module _ {A : Type 0} {g : Ghosts A} (c : Cluster A g) (m : State Cells) (is : R
 
   pub fetch_answered : (q : Request) → read h.schema words ≡ Ok q → (text : List ℕ)
       → text ≡ cells_text h.schema h.cells q → answer_to cell_model m name words ≡ Ok text
-  fetch_answered q said text written = answer ∙ ap (answered h) said ∙ ap (λ (t : List ℕ). Ok t) (sym written)
+  fetch_answered q parsed text written = answer ∙ ap (answered h) parsed ∙ ap (λ (t : List ℕ). Ok t) (sym written)
 
 -- ---- the models agree
 
@@ -79,6 +79,6 @@ pub fetch_agrees : (m : State Knowledge) → IsSound m → (name : List ℕ) (wo
 unfolding answer_to
 fetch_agrees m sound name words =
     found_agree (λ text. text) (λ text. Unit {0}) node_in_cells m.nodes name NoNode _ _
-    (λ n here. then_agree (λ text. text) (λ text. Unit {0}) (request_of (read n.schema words)) _ _ (λ q said.
+    (λ n here. then_agree (λ text. text) (λ text. Unit {0}) (request_of (read n.schema words)) _ _ (λ q parsed.
     done_agrees (λ text. text) (λ text. Unit {0}) _ _
     (answer_of_state n.schema (layout_at m sound name n here) n.contents q) tt))

@@ -31,7 +31,7 @@ unless_faulty-ok (Some fault) layout is = tt
 pub layout_is : (word : List ℕ) (archives : List (List ℕ)) → OfAnswer IsLayout (layout_of word archives)
 unfolding layout_of
 layout_is word archives = then_holds IsLayout (ok_or (number_within 0 MAX_U32 word) BadNumber) _
-    (λ seconds said. then_holds IsLayout (ok_or (archives_of archives) BadNumber) _ (λ specs also.
+    (λ seconds parsed. then_holds IsLayout (ok_or (archives_of archives) BadNumber) _ (λ specs also.
     unless_faulty-ok (schema_fault seconds specs) (record { step = seconds; archives = specs })
     (checked_layout seconds specs)))
 

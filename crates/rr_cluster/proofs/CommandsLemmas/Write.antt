@@ -107,7 +107,7 @@ module _ (old new : ReplicaState) (clock : ℤ) (lead : Option ℕ) (p : PointVi
   point_refused (why.Memory put) stop stopped same ahead spent = rw stopped tt
 
 -- a line that is read
-line_read : (said : Result LineView LineFault) (view : LineView) → line_of said ≡ Ok view → said ≡ Ok view
+line_read : (parsed : Result LineView LineFault) (view : LineView) → line_of parsed ≡ Ok view → parsed ≡ Ok view
 line_read (Ok other) view e = cc
 line_read (Err fault) view e = absurd cc
 
@@ -115,9 +115,9 @@ line_read (Err fault) view e = absurd cc
 pub stopped_line : (h : ReplicaState) (clock : ℤ) (lead : Option ℕ) (text : List ℕ) (fault : LineFault) (stop : Stop)
     → IsStopOf line.Memory Line fault stop → (fault ≡ line.Memory) ⊎ (reading Ns text ≡ Err fault)
     → Writes h h (Err stop) (samples_of_line (node_of h) clock lead text)
-stopped_line h clock lead text fault stop (inl memory) said = rw memory.1 tt
+stopped_line h clock lead text fault stop (inl memory) parsed = rw memory.1 tt
 stopped_line h clock lead text fault stop (inr other) (inl memory) = absurd (other.0 memory)
-stopped_line h clock lead text fault stop (inr other) (inr said) = rw (other.1, said) (refl, refl)
+stopped_line h clock lead text fault stop (inr other) (inr parsed) = rw (other.1, parsed) (refl, refl)
 
 -- ---- the cluster after a write
 
@@ -140,14 +140,14 @@ module _ {A : Type 0} {g : Ghosts A} (old new : Cluster A g) (m : State Cells) (
       (represents_put old new m same is name h m.world put
       (ap (λ (x : ReplicaState). x.schema) unchanged ∙ is.shared name was here))
 
-  leaves : (result : Result (Unit {0}) Stop) (said : Result (List Sample) CommandFault)
-      → Writes (replica_state was) (replica_state h) result said
-      → Leaves new m result (said >>= λ xs. Ok (record m {
+  leaves : (result : Result (Unit {0}) Stop) (parsed : Result (List Sample) CommandFault)
+      → Writes (replica_state was) (replica_state h) result parsed
+      → Leaves new m result (parsed >>= λ xs. Ok (record m {
         nodes = map.insert m.nodes name (with_all_written cell_model (node_in was) xs);
         world =
             with_samples m.world xs;
       }))
-  leaves (Ok done) said writes =
+  leaves (Ok done) parsed writes =
       let after : List Sample → Node Cells → State Cells =
       λ xs n. record m { nodes = map.insert m.nodes name n; world = with_samples m.world xs } in (
         after writes.0 (with_all_written cell_model (node_in was) writes.0),
@@ -158,7 +158,7 @@ module _ {A : Type 0} {g : Ghosts A} (old new : Cluster A g) (m : State Cells) (
             (ap (λ (n : Node Cells). n.schema) writes.2 ∙ schema_stays (node_in was) writes.0
             ∙ is.shared name was here)),
       )
-  leaves (Err (Refused fault)) said writes = (
+  leaves (Err (Refused fault)) parsed writes = (
     ap (λ (r : Result (List Sample) CommandFault). r >>= λ xs. Ok
         (record m {
           nodes = map.insert m.nodes name (with_all_written cell_model (node_in was) xs);
@@ -167,19 +167,19 @@ module _ {A : Type 0} {g : Ghosts A} (old new : Cluster A g) (m : State Cells) (
         })) writes.0,
     represents_still writes.1,
   )
-  leaves (Err Memory) said writes = tt
+  leaves (Err Memory) parsed writes = tt
 
   pub leaves_written : (line : List ℕ) (result : Result (Unit {0}) Stop)
       → Writes (replica_state was) (replica_state h) result (samples_of_line (node_in was) old.clock old.lead line)
       → Leaves new m result (after_write cell_model m name line)
   leaves_written line result writes =
-      let said : samples_of_line (node_in was) old.clock old.lead line
+      let parsed : samples_of_line (node_in was) old.clock old.lead line
       ≡ samples_of_line (node_in was) m.clock m.lead line =
       λ i. samples_of_line (node_in was) (is.clock i) (is.lead i) line in
       subst (λ (r : Result (State Cells) CommandFault). Leaves new m result r)
       (sym (write_to_node cell_model m name line (node_in was) (node_at old m is name (Some was) here)))
       (leaves result (samples_of_line (node_in was) m.clock m.lead line)
-      (subst (Writes (replica_state was) (replica_state h) result) said writes))
+      (subst (Writes (replica_state was) (replica_state h) result) parsed writes))
 
 -- ---- samples that a node writes next
 
@@ -220,12 +220,12 @@ module _ {K : Type 0} (n : Node K) (few : n.next ≤ MAX_NUMBER + 1) (clock : �
       (one : HasNoLineFeed line) where
     view_is_sound : (view : LineView) → IsLineOf Ns line (Ok view)
         → OfAnswer (AllByRecursion IsSoundSample) (samples_of_view n clock lead view)
-    view_is_sound nothing said = last_holds (AllByRecursion IsSoundSample) [] tt
-    view_is_sound (point p) said = of_point (AllByRecursion IsSoundSample) p (λ enough.
+    view_is_sound nothing parsed = last_holds (AllByRecursion IsSoundSample) [] tt
+    view_is_sound (point p) parsed = of_point (AllByRecursion IsSoundSample) p (λ enough.
         samples_fit n.origin n.next (unwrap_or p.time clock) p p.fields is some enough
-        (time_fits Ns said.parts.ending p.time clock said.parts.is_ending fits)
-        (keys_of_point Ns line p one said)
-        (fields_fit said.parts.fields_text p.fields said.parts.ending said.parts.are_fields))
+        (time_fits Ns parsed.parts.ending p.time clock parsed.parts.is_ending fits)
+        (keys_of_point Ns line p one parsed)
+        (fields_fit parsed.parts.fields_text p.fields parsed.parts.ending parsed.parts.are_fields))
 
     line_is_sound : (xs : List Sample) → samples_of_line n clock lead line ≡ Ok xs → AllByRecursion IsSoundSample xs
     line_is_sound xs = holds_of (AllByRecursion IsSoundSample) (samples_of_line n clock lead line) xs
@@ -354,12 +354,12 @@ unfolding after_write
 write_agrees m sound name line =
     let P : State Knowledge → Type 0 = λ after. HasNoLineFeed line → IsSound after in
     found_agree in_cells P node_in_cells m.nodes name NoNode _ _
-    (λ n here. then_agree in_cells P (samples_of_line n m.clock m.lead line) _ _ (λ xs said.
+    (λ n here. then_agree in_cells P (samples_of_line n m.clock m.lead line) _ _ (λ xs parsed.
     let node = sound.nodes name n here in
-    let next = line_is_next n node.few_numbers m.clock m.lead line xs said in
+    let next = line_is_next n node.few_numbers m.clock m.lead line xs parsed in
     done_agrees in_cells P _ _ (with_node_agrees m name (with_all_written cell_model (node_in_cells n) xs)
     (with_all_written sample_model n xs) m.origins (with_samples m.world xs)
     (all_written_agree m.world n (layout_at m sound name n here) node xs next))
     (λ one. samples_are_sound m sound name n here xs next
     (line_is_sound n node.few_numbers m.clock m.lead (sound.origins n.origin (sound.used name n here)) node.some_number
-    sound.clock line one xs said))))
+    sound.clock line one xs parsed))))

@@ -80,5 +80,5 @@ pub struct ScriptLine<'a> {
     /// Its number, from 1. Skipped lines count.
     pub number: u64,
     /// Its command, or why it has none.
-    pub said: Result<Event<'a>, SyntaxFault>,
+    pub parsed: Result<Event<'a>, SyntaxFault>,
 }

@@ -6,7 +6,7 @@ use super::listing::list_keys;
 use super::response::{fill, fill_failed};
 use super::visits::Queue;
 use crate::clock::SystemClock;
-use crate::signals::{Board, HaltFlag};
+use crate::signals::{HaltFlag, SharedText};
 use bytes::Bytes;
 use http::{Request, header};
 use http_server::{Response, Service};
@@ -47,7 +47,7 @@ pub struct Desk {
     /// What the node is, in the text form of Prometheus.
     pub about: Vec<u8>,
     /// What it did, as its keeper puts it up.
-    pub board: Board,
+    pub metrics: SharedText,
     /// What was answered at this desk and the others of the node.
     pub answered: Answered,
 }
@@ -125,8 +125,8 @@ fn reply_to_told(alloc: Global, told: Option<Told<LineAnswers>>) -> Result<Reply
     }
 }
 
-/// The answer to what asks for nothing that a desk has: a page, whether the node is there, or a path
-/// or a method that is refused.
+/// The answer to what asks for nothing that a desk has: a page, whether the node is there, or a
+/// path or a method that is refused.
 fn fixed_reply(alloc: Global, ask: Ask) -> Result<Reply, AllocError> {
     match ask {
         Ask::Health => json(alloc, Status::Ok, "{\"name\":\"rr\",\"status\":\"pass\"}\n"),
@@ -194,7 +194,7 @@ impl<T: Wait + time::Clock> Clerk<'_, T> {
     /// What the node is, and what it did until its last round.
     fn metrics(&self) -> Result<Reply, AllocError> {
         let mut text = Vec::from_slice(self.desk.alloc, &self.desk.about)?;
-        text.extend_from_slice(&self.desk.board.read(self.rt)?)?;
+        text.extend_from_slice(&self.desk.metrics.read(self.rt)?)?;
         let answered = self.desk.answered.text(self.desk.alloc)?;
         text.extend_from_slice(answered.as_bytes())?;
         Ok(Reply {
@@ -226,8 +226,8 @@ impl<T: Wait + time::Clock> Clerk<'_, T> {
             text,
             slip: slip.share()?,
         };
-        let patience = Duration::from_secs(SECONDS_FOR_PLACE);
-        if !self.desk.queue.turns.put_body(self.rt, body, patience) {
+        let waiting = Duration::from_secs(SECONDS_FOR_PLACE);
+        if !self.desk.queue.turns.put_body(self.rt, body, waiting) {
             return Ok(None);
         }
         if !slip.withdraw(self.rt, Duration::from_secs(SECONDS_FOR_KEEPER)) {

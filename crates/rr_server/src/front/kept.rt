@@ -18,18 +18,18 @@ pub struct Kept {
     news: SaveNews,
     /// As many as may wait. Then a snapshot is asked for before its time.
     most: usize,
-    wish: Flag,
+    save_requested: Flag,
 }
 
 impl Kept {
     /// No answer waits, and at most so many will before the flag asks for a snapshot.
-    pub fn new(alloc: Global, news: SaveNews, most: usize, wish: Flag) -> Kept {
+    pub fn new(alloc: Global, news: SaveNews, most: usize, save_requested: Flag) -> Kept {
         Kept {
             alloc,
             answers: Vec::new(alloc),
             news,
             most,
-            wish,
+            save_requested,
         }
     }
 
@@ -39,7 +39,7 @@ impl Kept {
             refused.value.tell(rt, true);
         }
         if self.answers.len() >= self.most {
-            self.wish.raise();
+            self.save_requested.raise();
         }
     }
 

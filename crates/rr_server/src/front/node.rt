@@ -15,9 +15,9 @@ use std::thread::{Threads, join_mut};
 use std::time;
 
 /// Serves as [`serve_node`](rr_node::serve_node) does, with seats that put bodies and connections
-/// into the queue which the keeper takes its visits from ([`Queued`](super::Queued)). It ends when the flag of the node
-/// is raised, as where memory runs out on one of its threads, which is `Memory`; there is no other
-/// fault.
+/// into the queue which the keeper takes its visits from ([`Queued`](super::Queued)). It ends when
+/// the flag of the node is raised, as where memory runs out on one of its threads, which is
+/// `Memory`; there is no other fault.
 pub fn serve_web_node<
     A: Cells,
     V: Visits,

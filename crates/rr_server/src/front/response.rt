@@ -3,16 +3,13 @@
 use bytes::Bytes;
 use http::{HeaderName, HeaderValue, StatusCode, header};
 use http_server::Response;
+use rr_command_line::PRODUCT;
 use rr_web::{Kind, Reply, Status};
 use std::alloc::{AllocError, Global};
 
 /// What the page may take from elsewhere: scripts, styles and answers of the node that it is of.
 const POLICY: &str = "default-src 'none'; script-src 'self'; style-src 'self'; connect-src 'self'; \
     base-uri 'none'; form-action 'none'; frame-ancestors 'none'";
-
-/// What InfluxDB's clients show as the version of the server. It says that this is none of
-/// InfluxDB's.
-const SERVER_VERSION: &str = "rr-2";
 
 /// The status of a response.
 fn status_of(status: Status) -> StatusCode {
@@ -46,7 +43,8 @@ fn add_for_status(response: &mut Response, status: Status) -> Result<(), AllocEr
     match status {
         Status::NoContent => response.add_header(
             HeaderName::from_static("x-influxdb-version"),
-            HeaderValue::from_static(SERVER_VERSION),
+            // What InfluxDB's clients show as the version of the server: it is none of InfluxDB's.
+            HeaderValue::from_static(PRODUCT),
         ),
         Status::Busy => response.add_header(header::RETRY_AFTER, HeaderValue::from_static("1")),
         Status::OnlyPost => response.add_header(header::ALLOW, HeaderValue::from_static("POST")),

@@ -3,7 +3,7 @@
 use super::body::{Body, LineAnswers};
 use super::kept::Kept;
 use super::stream::{Answers, Input, Output};
-use crate::signals::Patience;
+use crate::signals::Waiting;
 use crate::tcp::halves;
 use rr_host::{Visit, Visits};
 use rr_io::Counted;
@@ -37,7 +37,7 @@ impl Queue {
 }
 
 /// The visits that wait in a queue, connections and bodies, in turn, for as long as they are waited
-/// for ([`Patience`]). Nothing is known of them.
+/// for ([`Waiting`]). Nothing is known of them.
 ///
 /// What the lines of a body were answered is said on its slip when the body is handed back, since
 /// its lines are published then; or once they are saved ([`Queued::once_saved`]).
@@ -47,7 +47,7 @@ pub struct Queued<'a, R> {
     alloc: Global,
     queue: Queue,
     idle: Option<u64>,
-    patience: Patience,
+    waiting: Waiting,
     /// The answers that wait for a save, where they do.
     kept: Option<Kept>,
 }
@@ -58,21 +58,21 @@ fn one_second() -> Duration {
 }
 
 impl<'a, R: Wait + Clock> Queued<'a, R> {
-    /// The visits of a queue, waited for as `patience` says. Its connections may move no byte for
+    /// The visits of a queue, waited for as `waiting` says. Its connections may move no byte for
     /// `idle` seconds.
     pub fn new(
         rt: &'a R,
         alloc: Global,
         queue: Queue,
         idle: Option<u64>,
-        patience: Patience,
+        waiting: Waiting,
     ) -> Queued<'a, R> {
         Queued {
             rt,
             alloc,
             queue,
             idle,
-            patience,
+            waiting,
             kept: None,
         }
     }
@@ -87,7 +87,7 @@ impl<'a, R: Wait + Clock> Queued<'a, R> {
 
     /// The visit of a connection.
     fn visit_of_connection(&self, stream: TcpStream) -> Visit<Input, Output> {
-        match halves(self.alloc, stream, self.idle, self.patience.halt()) {
+        match halves(self.alloc, stream, self.idle, self.waiting.halt()) {
             Some((input, output)) => Visit::Stream(
                 Counted::new(Input::Connection(input)),
                 Counted::new(Output::Connection(output)),
@@ -136,14 +136,14 @@ impl<R: Wait + Clock> Visits for Queued<'_, R> {
     ghost calls = { λ _. None };
 
     fn next(&mut self) -> Visit<Input, Output> {
-        if !self.patience.has_started() {
+        if !self.waiting.has_started() {
             return Visit::Over;
         }
         if let Some(kept) = &mut self.kept {
             kept.tell(self.rt);
         }
-        for _ in 0..self.patience.seconds() {
-            if self.patience.is_over() {
+        for _ in 0..self.waiting.seconds() {
+            if self.waiting.is_over() {
                 return Visit::Over;
             }
             if let Next::One(taken) = self.queue.turns.take(self.rt, one_second())
@@ -164,7 +164,7 @@ impl<R: Wait + Clock> Visits for Queued<'_, R> {
         if let Input::Connection(half) = input.into_inner()
             && !half.has_given()
         {
-            self.patience.note_empty();
+            self.waiting.note_empty();
         }
         if let Output::Answers(answers) = output.into_inner() {
             match &mut self.kept {

@@ -1,4 +1,4 @@
-//! Snapshots by turns.
+//! Snapshots at intervals.
 
 use super::round_log::RoundLog;
 use crate::signals::Flag;
@@ -13,11 +13,11 @@ use std::time::{Clock, Instant};
 /// How often cells are counted for what reads the counts of the node at any time, in seconds.
 const COUNT_EVERY: u64 = 10;
 
-/// A shelf that wants a snapshot at most once in a turn of so many seconds, or when a flag was
-/// raised, and then hands it to another shelf. After each turn its log says what the rounds did. In
-/// each round it prints on standard error `session: SchemaDiffers`, if another flag was raised.
-/// Cells are counted where a log says how many there are, which other rounds don't wait for. Nothing
-/// is known of its calls.
+/// A shelf that wants a snapshot at most once an interval, or when a flag was raised, and then
+/// hands it to another shelf. After each interval its log says what the rounds did. In each round
+/// it prints `session: SchemaDiffers` on standard error, if another flag was raised. Cells are
+/// counted where a log says how many there are; other rounds don't wait for that. Nothing is known
+/// of its calls.
 #[derive(Drop)]
 pub struct PacedShelf<'a, R, S> {
     rt: &'a R,
@@ -25,21 +25,21 @@ pub struct PacedShelf<'a, R, S> {
     pace: Pace,
     /// When cells are counted for the counts of the node.
     counting: Pace,
-    wish: Flag,
-    alarm: Flag,
+    save_requested: Flag,
+    schema_differs: Flag,
     log: RoundLog<'a, R>,
 }
 
 impl<'a, R: Files + Eprint + Clock + Wait, S> PacedShelf<'a, R, S> {
-    /// Hands a snapshot to a shelf once in so many seconds, or whenever there is one where that is
-    /// missing; the wish asks for one before its time. The alarm is that a peer of another schema
-    /// pulled.
+    /// Hands a snapshot to a shelf once an interval of `every` seconds, or in each round without
+    /// one. `save_requested` asks for a snapshot before its time; `schema_differs` says that a peer
+    /// of another schema pulled.
     pub fn new(
         rt: &'a R,
         shelf: S,
         every: Option<u64>,
-        wish: Flag,
-        alarm: Flag,
+        save_requested: Flag,
+        schema_differs: Flag,
         log: RoundLog<'a, R>,
     ) -> PacedShelf<'a, R, S> {
         PacedShelf {
@@ -47,8 +47,8 @@ impl<'a, R: Files + Eprint + Clock + Wait, S> PacedShelf<'a, R, S> {
             shelf,
             pace: Pace::new(every),
             counting: Pace::new(Some(COUNT_EVERY)),
-            wish,
-            alarm,
+            save_requested,
+            schema_differs,
             log,
         }
     }
@@ -56,13 +56,13 @@ impl<'a, R: Files + Eprint + Clock + Wait, S> PacedShelf<'a, R, S> {
     /// Whether a snapshot is wanted now.
     fn is_wanted(&self) -> bool {
         // The flag is taken down by a snapshot that is due anyway.
-        let is_asked = self.wish.take();
+        let is_asked = self.save_requested.take();
         is_asked || self.pace.is_due(self.now())
     }
 
-    /// Whether a turn ends with this round, at whose end its log says how many cells there are.
-    fn is_turn_over(&self) -> bool {
-        self.log.says() && (self.wish.is_raised() || self.pace.is_due(self.now()))
+    /// Whether an interval ends with this round, after which the log says how many cells there are.
+    fn is_interval_over(&self) -> bool {
+        self.log.says() && (self.save_requested.is_raised() || self.pace.is_due(self.now()))
     }
 
     /// Whether the counts of the node, if they are read, need a new number of cells.
@@ -87,7 +87,7 @@ impl<R: Files + Eprint + Clock + Wait, S: Shelf> Shelf for PacedShelf<'_, R, S> 
     ghost calls = { λ s. None };
 
     fn lines_taken(&mut self, report: Option<Report>) {
-        if self.alarm.take() {
+        if self.schema_differs.take() {
             // If this can't be printed, there is no one to tell.
             let _printed = eprintln!(self.rt; "session: SchemaDiffers");
         }
@@ -107,7 +107,7 @@ impl<R: Files + Eprint + Clock + Wait, S: Shelf> Shelf for PacedShelf<'_, R, S> 
         ensures { Grows None None (counts result ∷ []) }
     {
         let is_asked = self.shelf.counts_cells();
-        let counts = is_asked || self.is_turn_over() || self.is_count_old();
+        let counts = is_asked || self.is_interval_over() || self.is_count_old();
         if counts {
             let now = self.now();
             self.counting.done(now);
@@ -134,7 +134,7 @@ impl<R: Files + Eprint + Clock + Wait, S: Shelf> Shelf for PacedShelf<'_, R, S> 
         self.pace.done(now);
         match self.shelf.open() {
             Opening::Writer(output) => Opening::Writer(output),
-            // No writer will be handed back, so the turn is over.
+            // No writer will be handed back, so the interval is over.
             other => {
                 self.log.say();
                 other

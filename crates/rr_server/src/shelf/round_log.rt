@@ -1,7 +1,7 @@
 //! What a node says of its rounds.
 
 use super::replaced::Replaced;
-use crate::signals::Board;
+use crate::signals::SharedText;
 use rr_node::{Report, Tally};
 use std::alloc::{AllocError, Global};
 use std::io::Write;
@@ -22,15 +22,15 @@ impl fmt::Display for Seconds {
 }
 
 /// Says what rounds did: a line on standard error, if there is to be one, and a file of counts, if
-/// one is named, which is written as a snapshot is. After each round the same counts are put on a
-/// board, if there is one. Nothing is known of what it says.
+/// one is named, which is written as a snapshot is. After each round the same counts are the
+/// metrics of the node, if it shows any. Nothing is known of what it says.
 #[derive(Drop)]
 pub struct RoundLog<'a, R> {
     rt: &'a R,
     alloc: Global,
     prints: bool,
     file: Option<Replaced<'a, R>>,
-    board: Option<Board>,
+    metrics: Option<SharedText>,
     /// The connections since the last line, and all of them.
     since: Tally,
     all: Tally,
@@ -63,7 +63,7 @@ impl<'a, R: Files + Eprint + Clock + Wait> RoundLog<'a, R> {
             alloc,
             prints,
             file,
-            board: None,
+            metrics: None,
             since: Tally::new(),
             all: Tally::new(),
             past_before: 0,
@@ -75,10 +75,10 @@ impl<'a, R: Files + Eprint + Clock + Wait> RoundLog<'a, R> {
         })
     }
 
-    /// The same log, which puts its counts on a board too.
-    pub fn on_board(self, board: Board) -> RoundLog<'a, R> {
+    /// The same log, whose counts are the metrics too.
+    pub fn with_metrics(self, metrics: SharedText) -> RoundLog<'a, R> {
         RoundLog {
-            board: Some(board),
+            metrics: Some(metrics),
             ..self
         }
     }
@@ -113,14 +113,14 @@ impl<'a, R: Files + Eprint + Clock + Wait> RoundLog<'a, R> {
         self.save = self.elapsed();
     }
 
-    /// Whether it says at the end of a turn what the rounds did.
+    /// Whether it says at the end of an interval what the rounds did.
     pub(crate) fn says(&self) -> bool {
         self.prints || self.file.is_some()
     }
 
-    /// Whether it puts the counts on a board.
+    /// Whether its counts are metrics too.
     pub(crate) fn posts(&self) -> bool {
-        self.board.is_some()
+        self.metrics.is_some()
     }
 
     /// How long it is since something began.
@@ -131,13 +131,13 @@ impl<'a, R: Files + Eprint + Clock + Wait> RoundLog<'a, R> {
         }
     }
 
-    /// Puts the counts on the board.
+    /// Puts the counts in the place of the last metrics.
     pub(crate) fn post(&self) {
         // If there is no memory for them, the last ones stay.
-        if let Some(board) = &self.board
+        if let Some(metrics) = &self.metrics
             && let Ok(text) = self.text()
         {
-            board.put(self.rt, text.into_bytes());
+            metrics.put(self.rt, text.into_bytes());
         }
     }
 

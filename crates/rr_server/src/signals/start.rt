@@ -10,8 +10,8 @@ use std::sync::atomic::{AtomicUsize, Ordering};
 /// millisecond.
 const LOOK: i64 = 1_000_000;
 
-/// How often is looked: for half a second. On a machine that is busy a look takes longer, and so does
-/// the start of a thread.
+/// How often is looked: for half a second. On a machine that is busy a look takes longer, and so
+/// does the start of a thread.
 const LOOKS: u32 = 500;
 
 /// Sleeps for so many nanoseconds, fewer than a second's. A signal may end the sleep early.

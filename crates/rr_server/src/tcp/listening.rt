@@ -1,7 +1,7 @@
 //! Connections over TCP.
 
 use super::socket::{Half, halves, one_second};
-use crate::signals::{Flag, Patience, pause};
+use crate::signals::{Flag, Waiting, pause};
 use rr_host::{Visit, Visits};
 use rr_io::Counted;
 use std::alloc::Global;
@@ -21,7 +21,7 @@ fn with_limit(listener: TcpListener) -> io::Result<TcpListener> {
     Ok(TcpListener::from(OwnedFd::from(socket)))
 }
 
-/// The connections that come to an address, for as long as they are waited for ([`Patience`]); then
+/// The connections that come to an address, for as long as they are waited for ([`Waiting`]); then
 /// none will come any more. Nothing is known of them.
 ///
 /// One for which there is no memory fails. A read or write of one that moves no byte for the idle
@@ -34,9 +34,9 @@ pub struct Listening {
     alloc: Global,
     listener: TcpListener,
     idle: Option<u64>,
-    patience: Patience,
+    waiting: Waiting,
     /// Raised for a peer of another schema.
-    alarm: Option<Flag>,
+    schema_differs: Option<Flag>,
     /// Whether the peer of the connection that was given last has another schema.
     differs: bool,
 }
@@ -53,29 +53,29 @@ pub enum Accepted {
 }
 
 impl Listening {
-    /// The connections that come to a listener, waited for as `patience` says. Each may move no
+    /// The connections that come to a listener, waited for as `waiting` says. Each may move no
     /// byte for `idle` seconds, or without end if that is missing.
     pub fn new(
         alloc: Global,
         listener: TcpListener,
         idle: Option<u64>,
-        patience: Patience,
+        waiting: Waiting,
     ) -> io::Result<Listening> {
         Ok(Listening {
             alloc,
             listener: with_limit(listener)?,
             idle,
-            patience,
-            alarm: None,
+            waiting,
+            schema_differs: None,
             differs: false,
         })
     }
 
     /// The same connections, with a flag that is raised for each peer that pulls on one and has
     /// another schema.
-    pub fn with_alarm(self, alarm: Flag) -> Listening {
+    pub fn with_schema_flag(self, schema_differs: Flag) -> Listening {
         Listening {
-            alarm: Some(alarm),
+            schema_differs: Some(schema_differs),
             ..self
         }
     }
@@ -83,11 +83,11 @@ impl Listening {
     /// Waits for the next connection, which isn't handed back. It is as [`Visits::next`] gives it,
     /// but for its halves.
     pub fn accept(&mut self) -> Accepted {
-        if self.patience.is_over() || !self.patience.has_started() {
+        if self.waiting.is_over() || !self.waiting.has_started() {
             return Accepted::Over;
         }
-        for _ in 0..self.patience.seconds() {
-            if self.patience.is_over() {
+        for _ in 0..self.waiting.seconds() {
+            if self.waiting.is_over() {
                 return Accepted::Over;
             }
             match self.listener.accept() {
@@ -104,7 +104,7 @@ impl Listening {
 
     /// A connection that was taken.
     fn visit(&self, stream: TcpStream) -> Visit<Half, Half> {
-        match halves(self.alloc, stream, self.idle, self.patience.halt()) {
+        match halves(self.alloc, stream, self.idle, self.waiting.halt()) {
             Some((input, output)) => Visit::Stream(Counted::new(input), Counted::new(output)),
             None => Visit::Failed,
         }
@@ -132,8 +132,8 @@ impl Visits for Listening {
 
     fn schema_differs(&mut self) {
         self.differs = true;
-        if let Some(alarm) = &self.alarm {
-            alarm.raise();
+        if let Some(schema_differs) = &self.schema_differs {
+            schema_differs.raise();
         }
     }
 
@@ -143,7 +143,7 @@ impl Visits for Listening {
     {
         let mut input = input.into_inner();
         if !input.has_given() {
-            self.patience.note_empty();
+            self.waiting.note_empty();
         }
         if self.differs {
             input.drain();

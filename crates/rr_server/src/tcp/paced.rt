@@ -12,8 +12,8 @@ struct PacedPeer<'a> {
     pace: Pace,
 }
 
-/// A dial that calls each peer at most once in a turn of so many seconds, and passes over one that
-/// failed for some turns: see [`Pace`]. A peer has failed if it can't be reached, if a call of its
+/// A dial that calls each peer at most once an interval, and passes over one that failed for some
+/// intervals: see [`Pace`]. A peer has failed if it can't be reached, if a call of its
 /// stream fails, or if it ends the stream before it is handed back. Nothing is known of the calls.
 #[derive(Drop)]
 pub struct PacedDial<'a, R, D> {

@@ -3,12 +3,12 @@
 use super::rounds::CONFIG;
 use rr_base::{Counted, Failing};
 use rr_desk::{Keeper, Reader, open};
+use rr_fakes::clock::Moments;
+use rr_fakes::dial::PreparedDial;
 use rr_fakes::replicas::minutes;
 use rr_fakes::room::{Room, with_room};
-use rr_node::{
-    Config, Moments, OpenGate, PreparedDial, PreparedShelf, Seat, Visit, Visits, keep_round,
-    serve_seat,
-};
+use rr_fakes::shelf::PreparedShelf;
+use rr_node::{Config, OpenGate, Seat, Visit, Visits, keep_round, serve_seat};
 use rr_packed::PackedArchive;
 use std::alloc::Global;
 use std::io;

@@ -2,12 +2,13 @@
 
 use super::rounds::CONFIG;
 use rr_desk::open;
+use rr_fakes::clock::Moments;
+use rr_fakes::dial::{PreparedDial, PreparedPeer};
 use rr_fakes::replicas::minutes;
+use rr_fakes::shelf::{PreparedOpening, PreparedShelf, ShelfNote};
+use rr_fakes::visits::Prepared;
 use rr_gossip::GossipFault;
-use rr_node::{
-    Config, Moments, NodeFault, Prepared, PreparedDial, PreparedOpening, PreparedPeer,
-    PreparedShelf, ShelfNote, keep_round,
-};
+use rr_node::{Config, NodeFault, keep_round};
 use rr_packed::PackedArchive;
 use rr_snapshot::SaveFault;
 use std::alloc::Global;

@@ -3,7 +3,8 @@
 use super::rounds::SENT;
 use rr_desk::{Reader, open};
 use rr_fakes::replicas::minutes;
-use rr_node::{OpenGate, Prepared, Seat, serve_seat};
+use rr_fakes::visits::Prepared;
+use rr_node::{OpenGate, Seat, serve_seat};
 use rr_packed::PackedArchive;
 use std::alloc::Global;
 use std::test::Fail;

@@ -1,11 +1,13 @@
 //! A node without end that ends where memory runs out on one of its threads, whatever the others
-//! wait for, and where one of them doesn't begin. A keeper that runs out of memory halts it, which raises the same flag.
+//! wait for, and where one of them doesn't begin. A keeper that runs out of memory halts it, which
+//! raises the same flag.
 
 use rr_desk::{Keeper, Reader, open};
+use rr_fakes::clock::Moments;
 use rr_fakes::replicas::minutes;
-use rr_node::{Config, Halt, Moments, OpenGate, Seat, serve_node};
+use rr_node::{Config, Halt, OpenGate, Seat, serve_node};
 use rr_packed::PackedArchive;
-use rr_server::{Calling, FileShelf, HaltFlag, Listening, Patience, StartBarrier, TcpSeats};
+use rr_server::{Calling, FileShelf, HaltFlag, Listening, StartBarrier, TcpSeats, Waiting};
 use std::alloc::Global;
 use std::io::Write;
 use std::net::{Net, SocketAddr, TcpListener, TcpStream};
@@ -35,8 +37,8 @@ fn listening<R: Net<Listener = TcpListener, Stream = TcpStream>>(
 ) -> Option<(Listening, SocketAddr)> {
     let listener = TcpListener::bind(rt, "127.0.0.1:0").ok()?;
     let address = listener.local_addr().ok()?;
-    let patience = Patience::new(halt.share().ok()?);
-    let listening = Listening::new(alloc, listener, config.idle, patience).ok()?;
+    let waiting = Waiting::new(halt.share().ok()?);
+    let listening = Listening::new(alloc, listener, config.idle, waiting).ok()?;
     Some((listening, address))
 }
 
@@ -171,10 +173,10 @@ fn a_halt_raises_the_flag(rt: HostRuntime) -> Result<(), Fail> {
 #[test]
 fn a_node_whose_threads_do_not_begin_is_over(rt: HostRuntime) -> Result<(), Fail> {
     let start = StartBarrier::new(rt.alloc(), 2)?;
-    let mut patience = Patience::new(HaltFlag::new(rt.alloc())?).after_start(start);
+    let mut waiting = Waiting::new(HaltFlag::new(rt.alloc())?).after_start(start);
     let began = Instant::now(&rt)?;
-    let has_started = patience.has_started();
+    let has_started = waiting.has_started();
     let is_soon = began.elapsed(&rt)?.as_secs() < 5;
-    assert!(rt; (has_started, patience.is_over(), is_soon) == (false, true, true));
+    assert!(rt; (has_started, waiting.is_over(), is_soon) == (false, true, true));
     Ok(())
 }

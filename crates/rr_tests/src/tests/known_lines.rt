@@ -59,8 +59,8 @@ m v|m v|-
 |m v|-";
 
 /// Whether what a line of these says is read.
-fn is_known(alloc: Global, said: &str, last: &mut LastTime) -> Option<bool> {
-    let (line, rest) = said.split_once('|')?;
+fn is_known(alloc: Global, case: &str, last: &mut LastTime) -> Option<bool> {
+    let (line, rest) = case.split_once('|')?;
     let (key, wanted) = rest.split_once('|')?;
     let key = SeriesKey::parse_text(alloc, key.as_bytes()).ok()?;
     Some(known(line, &key, last) == wanted_of(wanted)?)
@@ -69,8 +69,8 @@ fn is_known(alloc: Global, said: &str, last: &mut LastTime) -> Option<bool> {
 #[test]
 fn lines_are_known_by_their_key_texts(rt: HostRuntime) -> Result<(), Fail> {
     let mut last = LastTime::new();
-    for said in LINES.split('\n') {
-        assert!(rt; is_known(rt.alloc(), said, &mut last) == Some(true));
+    for case in LINES.split('\n') {
+        assert!(rt; is_known(rt.alloc(), case, &mut last) == Some(true));
     }
     Ok(())
 }
@@ -119,8 +119,8 @@ m,a=1 u=1i,v=2 7|m,a=1 u|m,a=1 v|-
 m,a=1 u=1i, v=2i 7|m,a=1 u|m,a=1 v|-";
 
 /// Whether what a line of these says is read.
-fn are_known(alloc: Global, said: &str, last: &mut LastTime) -> Option<bool> {
-    let (line, rest) = said.split_once('|')?;
+fn are_known(alloc: Global, case: &str, last: &mut LastTime) -> Option<bool> {
+    let (line, rest) = case.split_once('|')?;
     let (texts, wanted) = rest.rsplit_once('|')?;
     let keys = keys_of(alloc, texts)?;
     Some(known_fields(line, &keys, last) == wanted_of(wanted)?)
@@ -129,8 +129,8 @@ fn are_known(alloc: Global, said: &str, last: &mut LastTime) -> Option<bool> {
 #[test]
 fn fields_are_known_by_their_key_texts(rt: HostRuntime) -> Result<(), Fail> {
     let mut last = LastTime::new();
-    for said in MANY.split('\n') {
-        assert!(rt; are_known(rt.alloc(), said, &mut last) == Some(true));
+    for case in MANY.split('\n') {
+        assert!(rt; are_known(rt.alloc(), case, &mut last) == Some(true));
     }
     Ok(())
 }

@@ -1,6 +1,7 @@
 //! Records of CSV, and refusals.
 
-use rr_fetch::{push_plain, push_refusal};
+use rr_fetch::push_plain;
+use rr_text::refusal::push_refusal;
 use std::alloc::{AllocError, Global};
 use std::test::Fail;
 

@@ -8,7 +8,8 @@ use rr_process::obey_order;
 use rr_words::Order;
 use std::alloc::Global;
 
-/// Obeys an order over a writer that holds bytes back, and answers whether that was without a fault.
+/// Obeys an order over a writer that holds bytes back, and answers whether that was without a
+/// fault.
 fn is_obeyed(alloc: Global, order: &Order, input: &[u8], passed: &mut Vec<u8>) -> bool {
     let held = Vec::new(alloc);
     let mut output = Counted::new(Holding { held, passed });

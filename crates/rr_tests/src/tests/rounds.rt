@@ -2,11 +2,12 @@
 
 use rr_base::{Counted, Origin};
 use rr_desk::{Keeper, open};
+use rr_fakes::clock::Moments;
+use rr_fakes::dial::{PreparedDial, PreparedPeer};
 use rr_fakes::replicas::minutes;
-use rr_node::{
-    Config, Moments, NodeFault, Prepared, PreparedDial, PreparedOpening, PreparedPeer,
-    PreparedShelf, Seats, ShelfNote, serve_node,
-};
+use rr_fakes::shelf::{PreparedOpening, PreparedShelf, ShelfNote};
+use rr_fakes::visits::Prepared;
+use rr_node::{Config, NodeFault, Seats, serve_node};
 use rr_packed::PackedArchive;
 use rr_replica::Replica;
 use rr_server::HaltFlag;

@@ -3,10 +3,12 @@
 use super::asked::Asked;
 use super::gates::{Meets, Signal};
 use rr_desk::{Keeper, Reader, open};
+use rr_fakes::clock::Moments;
+use rr_fakes::dial::PreparedDial;
 use rr_fakes::replicas::minutes;
-use rr_node::{
-    Config, Moments, Prepared, PreparedDial, PreparedShelf, Seat, Seats, serve_node, serve_seat,
-};
+use rr_fakes::shelf::PreparedShelf;
+use rr_fakes::visits::Prepared;
+use rr_node::{Config, Seat, Seats, serve_node, serve_seat};
 use rr_packed::PackedArchive;
 use rr_server::HaltFlag;
 use std::alloc::Global;

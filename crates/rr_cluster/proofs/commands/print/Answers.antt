@@ -8,8 +8,8 @@ use Rattle.rr_cluster.proofs.commands.print.Goals as goal
 
 -- without an answer nothing is printed
 not_printed : (stop : Stop) (due : Result (List ℕ) CommandFault) (text : List ℕ)
-    → Gives (λ (said : Vec ℕ). said.items) (Err stop) due
-    → Matches {A = Unit {0}} (λ _ said. text ≡ text ++ said) (text ≡ text) (Err stop) due
+    → Gives (λ (parsed : Vec ℕ). parsed.items) (Err stop) due
+    → Matches {A = Unit {0}} (λ _ parsed. text ≡ text ++ parsed) (text ≡ text) (Err stop) due
 not_printed (Refused fault) due text gives = (gives, refl)
 not_printed Memory due text gives = tt
 

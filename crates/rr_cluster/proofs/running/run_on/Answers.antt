@@ -5,13 +5,13 @@ use Rattle.rr_cluster.specs.declared.script.event.Event.TheVariants as event
 use Rattle.rr_cluster.specs.declared.script.event.ScriptLine.{ScriptLine}
 use Rattle.rr_cluster.specs.Model.{cell_model}
 use Rattle.rr_cluster.specs.Output.{after_line, output_from, output_of}
-use Rattle.rr_cluster.specs.Script.{line_view, said_view}
+use Rattle.rr_cluster.specs.Script.{line_view, parsed_view}
 use Rattle.rr_cluster.proofs.AgreementLemmas.{scripts_agree}
 use Rattle.rr_cluster.proofs.ScriptLemmas.{line_says_one_line}
 use Rattle.rr_cluster.proofs.running.run_on.Goals as goal
 
 abbrev any : ScriptLine
-any = record { number = 0; said = Ok (event.Schema (record { ref_ptr = (0, 0); now = [] }) None) }
+any = record { number = 0; parsed = Ok (event.Schema (record { ref_ptr = (0, 0); now = [] }) None) }
 
 pub loop-line-init : goal.loop-line-init
 loop-line-init g c =
@@ -34,7 +34,7 @@ loop-line-preserved g c =
     let before = c.loop-line.invariant in
     let m = before.0 in
     let line = get_or lines i any in
-    let done = after_line cell_model m line.number (said_view line.said) in
+    let done = after_line cell_model m line.number (parsed_view line.parsed) in
     let printed = c.in_ok-run_line.ensures m before.1 in
     let rest = output_from cell_model done.0 (map line_view (drop (i + 1) lines)) in
     let more = at_drop_more (λ (ls : List ScriptLine). output_from cell_model m (map line_view ls)) lines i any
@@ -53,6 +53,7 @@ returns g c =
     omega (arith, c.loop-line-test.false, c.loop-line.auto.line-index-end) in
     let none = ap (λ (k : ℕ). output_from cell_model before.0 (map line_view (drop k lines))) last
     ∙ ap (λ (ls : List ScriptLine). output_from cell_model before.0 (map line_view ls)) (drop-length lines) in
-    let cells : c.loop-line.text.items ≡ output_of cell_model c.args.script.now = sym (append-nil c.loop-line.text.items)
+    let cells : c.loop-line.text.items ≡ output_of cell_model c.args.script.now =
+        sym (append-nil c.loop-line.text.items)
     ∙ ap (λ (text : List ℕ). c.loop-line.text.items ++ text) (sym none) ∙ before.2 in
     record { cells = cells; samples = cells ∙ scripts_agree c.args.script.now }

@@ -47,7 +47,7 @@ loop-next-preserved g c =
     let summary = map owned_name c.args.summary.now in
     let cell = c.in-Some.cell in
     let e = seen_cell cell in
-    let front = map owned_cell c.loop-next.cells.items in
+    let prefix = map owned_cell c.loop-next.cells.items in
     let left = map owned_name c.names_from-names.result.now in
     let slot : to_z w64 (of_z w64 cell.slot) ≡ cell.slot = search rules in
     let next = rw slot at c.next_cell-next.ensures.listed in
@@ -55,13 +55,13 @@ loop-next-preserved g c =
     (subst (λ o. AreLeft (option_map seen_cell o) summary (map owned_name c.loop-next.names.now)) c.in-Some.is
     c.loop-next.invariant.left) in
     let names : left ≡ names_from e.0 summary = c.names_from-names.ensures ∙ here in
-    let added = c.in_ok-push_newer.ensures ∙ ap (λ k. front ++ newer_cell k e) c.first_version.ensures in
+    let added = c.in_ok-push_newer.ensures ∙ ap (λ k. prefix ++ newer_cell k e) c.first_version.ensures in
     record {
       so_far =
-          goes_on summary es front (map owned_cell c.push_newer.new.cells.items) e
+          goes_on summary es prefix (map owned_cell c.push_newer.new.cells.items) e
           (option_map seen_cell c.next_cell-next.result) left (T_from_true _ c.requires) (entries_sorted m) names
           next added
-          ∙ ap (λ o. front ++ newer_cells summary (cells_from (option_map seen_cell o) es)) (sym c.in-Some.is)
+          ∙ ap (λ o. prefix ++ newer_cells summary (cells_from (option_map seen_cell o) es)) (sym c.in-Some.is)
           ∙ c.loop-next.invariant.so_far;
       left = left_later e es (option_map seen_cell c.next_cell-next.result) summary left names next;
     }
@@ -71,10 +71,10 @@ returns g c =
     let h = replica_state c.args.replica.now in
     let es = entries h.cells in
     let summary = map owned_name c.args.summary.now in
-    let front = map owned_cell c.loop-next.cells.items in
-    let newer : front ≡ newer_cells summary es = sym (append-nil front)
-    ∙ ap (λ l. front ++ l) (sym (newer_none summary))
-    ∙ ap (λ o. front ++ newer_cells summary (cells_from (option_map seen_cell o) es)) (sym c.in_default.is)
+    let prefix = map owned_cell c.loop-next.cells.items in
+    let newer : prefix ≡ newer_cells summary es = sym (append-nil prefix)
+    ∙ ap (λ l. prefix ++ l) (sym (newer_none summary))
+    ∙ ap (λ o. prefix ++ newer_cells summary (cells_from (option_map seen_cell o) es)) (sym c.in_default.is)
     ∙ c.loop-next.invariant.so_far in
     record {
       newer = newer;

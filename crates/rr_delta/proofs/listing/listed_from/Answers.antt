@@ -17,15 +17,15 @@ loop-preserved g c =
     let cell = c.in-Some.cell in
     let e = seen_cell cell in
     let name = c.in_ok-of.field-0 in
-    let front = map owned_name c.loop.names.items in
+    let prefix = map owned_name c.loop.names.items in
     let slot : to_z w64 (of_z w64 cell.slot) ≡ cell.slot = search rules in
     let named : owned_name name ≡ named_version e = search rules in
     let items : c.push.new.self.items ≡ c.loop.names.items ++ name ∷ [] = search rules in
     let left = ap (λ o. cells_from o es) (rw slot at c.next_cell-next.ensures.listed)
     ∙ walked_on e.0 es (entries_sorted c.args.replica.now.cells) in
     (λ i. listed_so_far ((ap (map owned_name) items ∙ map_push owned_name c.loop.names.items name
-    ∙ ap (λ v. front ++ v ∷ []) named) i) (c.args.count - (c.loop.counter + 1)) (left i))
-    ∙ one_listed front c.args.count c.loop.counter e (filter (is_past e.0) es) c.loop-test.true
-    ∙ ap (λ o. listed_so_far front (c.args.count - c.loop.counter) (cells_from (option_map seen_cell o) es))
+    ∙ ap (λ v. prefix ++ v ∷ []) named) i) (c.args.count - (c.loop.counter + 1)) (left i))
+    ∙ one_listed prefix c.args.count c.loop.counter e (filter (is_past e.0) es) c.loop-test.true
+    ∙ ap (λ o. listed_so_far prefix (c.args.count - c.loop.counter) (cells_from (option_map seen_cell o) es))
     (sym c.in-Some.is)
     ∙ c.loop.invariant

@@ -1,9 +1,9 @@
 use Rattle.std.proofs.Common.{rules, ◌≡◌, [], ◌∷◌, ◌++◌, Some, false, slice_get, take, ap, ◌∙◌}
 use Rattle.rr_replica.specs.Numbered.{knows}
 use Rattle.rr_desk.specs.declared.change.Change.TheVariants.{AddKey}
-use Rattle.rr_desk.specs.Changes.{front_after, names_of, ops_in}
+use Rattle.rr_desk.specs.Changes.{prefix_after, names_of, ops_in}
 use Rattle.rr_desk.specs.Writers.{changes}
-use Rattle.rr_desk.proofs.ChangesLemmas.{front_after-more, ops_in-add_key}
+use Rattle.rr_desk.proofs.ChangesLemmas.{prefix_after-more, ops_in-add_key}
 use Rattle.rr_desk.proofs.NamingLemmas.{named-next}
 use Rattle.rr_desk.proofs.naming.name_keys.Goals as goal
 
@@ -23,7 +23,7 @@ loop-number-preserved g c =
     record {
       desk = c.append.ensures.desk ∙ so_far.desk;
       pending = ap (ops_in names) more ∙ ops_in-add_key names (changes w) key ∙ so_far.pending;
-      front = λ s. ap (front_after s) more ∙ front_after-more s (changes w) (AddKey key) ∙ so_far.front s;
+      prefix = λ s. ap (prefix_after s) more ∙ prefix_after-more s (changes w) (AddKey key) ∙ so_far.prefix s;
       named = named-next names own (changes w) number (rw so_far.here at so_far.named) (changes n) key at fresh more;
       here = search rules;
     }

@@ -12,12 +12,13 @@ enter_as-requires g c x = sees _ _ _
 
 pub returns-then-newer : goal.returns-then-newer
 returns-then-newer g c =
-    let x = c.in-Ok.reading.part.value in
-    let book : flat x.front.editions ≡ (view c.in-Ok.reading.place).seen = search rules in
-    let left : view c.leave-handle.result.place ≡ view c.in-Ok.reading.place = search rules in
-    let begins : IsPrefix c.args.front.now.editions x.front.editions = search rules in
+    let x = c.in-Ok.guard.part.value in
+    let book : flat x.prefix.editions ≡ (view c.in-Ok.guard.place).seen = search rules in
+    let left : view c.leave-inner.result.place ≡ view c.in-Ok.guard.place = search rules in
+    let begins : IsPrefix c.args.prefix.now.editions x.prefix.editions = search rules in
     record {
       seen = search rules;
-      answer = subst (λ (l : List Op). IsPrefix (flat c.args.front.now.editions) l) (book ∙ sym (ap (λ v. v.seen) left))
-          (flat-prefix c.args.front.now.editions x.front.editions begins);
+      answer = subst (λ (l : List Op). IsPrefix (flat c.args.prefix.now.editions) l)
+          (book ∙ sym (ap (λ v. v.seen) left))
+          (flat-prefix c.args.prefix.now.editions x.prefix.editions begins);
     }

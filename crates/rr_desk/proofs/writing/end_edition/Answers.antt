@@ -4,7 +4,7 @@ use Rattle.rr_replica.specs.ReplicaWithRoom.{ReplicaWithRoom, replica_state}
 use Rattle.rr_desk.specs.declared.rule.View.{View}
 use Rattle.rr_desk.specs.declared.change.Change.TheVariants.{Edition}
 use Rattle.rr_desk.specs.Changes.{names_at, names_of, ops_in}
-use Rattle.rr_desk.specs.Editions.{BookFront, flat}
+use Rattle.rr_desk.specs.Editions.{BookPrefix, flat}
 use Rattle.rr_desk.specs.KeeperState.{IsReady}
 use Rattle.rr_desk.specs.Writers.{changes}
 use Rattle.rr_desk.proofs.ChangesLemmas.{names_at-more, ops_in-end_edition}
@@ -29,10 +29,10 @@ returns-clause-ready g c =
     let whole : flat b.editions ≡ (view w.desk.place).seen
     ++ ops_in (names_of w.desk.shown.value.replica) (changes w) = search rules in
     let same : b.desk ≡ c.args.book.now.desk = search rules in
-    subst (λ (z : View × ReplicaWithRoom × BookFront). IsReady z.0 (replica_state z.1) (names_of z.1) z.2 (changes n))
-    (λ i. (view (desk i).place, (desk i).shown.value.replica, (desk i).shown.value.front))
+    subst (λ (z : View × ReplicaWithRoom × BookPrefix). IsReady z.0 (replica_state z.1) (names_of z.1) z.2 (changes n))
+    (λ i. (view (desk i).place, (desk i).shown.value.replica, (desk i).shown.value.prefix))
     (ended (view w.desk.place) (replica_state w.desk.shown.value.replica) (names_of w.desk.shown.value.replica)
-    w.desk.shown.value.front b (changes w)
+    w.desk.shown.value.prefix b (changes w)
     (changes n) c.requires.writes c.requires.joined c.requires.accepted (same ∙ c.requires.desk) whole more)
 
 pub returns-clause-names : goal.returns-clause-names

@@ -46,8 +46,8 @@ loop-row-preserved g c =
     c.schema-schema.ensures.value
     ∙ ap (λ slot. consolidation_of h.schema q.archive q.function (row_at h.cells q.key q.archive slot)) at in
     let back = to_z-of_z {w = w64} {z = c.start_of-start.result} (search rules) in
-    let front : c.deref-in-loop-row.result.now ≡ field_text q.key ++ comma ∷ [] = search rules in
-    let pushed = rw back at c.in_ok-push_row.ensures q.key front in
+    let prefix : c.deref-in-loop-row.result.now ≡ field_text q.key ++ comma ∷ [] = search rules in
+    let pushed = rw back at c.in_ok-push_row.ensures q.key prefix in
     rw (answer_more h.schema value_of q row, ← start, ← value)
     (pushed ∙ ap (λ (text : List ℕ). text ++ record_text q.key
     (c.start_of-start.result, c.in_ok-value.value)) c.loop-row.invariant)

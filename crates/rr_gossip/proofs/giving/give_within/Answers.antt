@@ -57,7 +57,7 @@ returns g c = record {
         (g.W.Write.contents (inner_of c.args.output.now)) (g.W.Write.contents (inner_of c.send_pages.new.output))
         c.take_names.new.giver heard c.send_pages.result
         (c.in_ok-take_names.ensures.limit ∙ ap (λ (x : Giver). x.limit) c.with_limit-giver.ensures)
-        c.send_pages.ensures.refused c.send_pages.ensures.sent.front);
+        c.send_pages.ensures.refused c.send_pages.ensures.sent.prefix);
     flushed = search rules;
     asked = search rules;
     blame = record {

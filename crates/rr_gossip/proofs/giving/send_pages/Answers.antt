@@ -5,7 +5,7 @@ use Rattle.std.proofs.lemmas.Result.{err_from_is_err_and}
 use Rattle.rr_io.proofs.StreamLemmas.{prefix_kept}
 use Rattle.rr_gossip.specs.Session.{reply_left}
 use Rattle.rr_gossip.proofs.GivingLemmas.{all_replied, cannot_reply, first_replies, one_replied, reply_unwritten}
-use Rattle.rr_gossip.proofs.SendLemmas.{concat_more, frames_before, frames_front, frames_whole}
+use Rattle.rr_gossip.proofs.SendLemmas.{concat_more, frames_before, frames_prefix, frames_whole}
 use Rattle.rr_gossip.proofs.StepLemmas.{err_is}
 use Rattle.rr_gossip.proofs.giving.send_pages.Goals as goal
 
@@ -24,7 +24,7 @@ pub returns-in_err-frame-clause-sent : goal.returns-in_err-frame-clause-sent
 returns-in_err-frame-clause-sent g c = record {
   whole = search rules;
   few = search rules;
-  front =
+  prefix =
       let so_far = c.loop-frame.invariant in
       frames_before _ _ _ _ so_far.before _ so_far.replies.all_are so_far.replies.few so_far.written;
   flushed = search rules;
@@ -51,13 +51,13 @@ pub returns-in_err-write_all-clause-sent : goal.returns-in_err-write_all-clause-
 returns-in_err-write_all-clause-sent g c = record {
   whole = search rules;
   few = search rules;
-  front =
+  prefix =
       let so_far = c.loop-frame.invariant in
       let frame = c.in-Some.frame.items in
       let one = one_replied (reply_left c.args.giver.now.stage) c.args.giver.now.limit c.loop-frame.giver
       c.next_frame.new.self so_far.before frame so_far.replies (rw c.in-Some.is at c.in_ok-frame.ensures.sent.given) in
-      frames_front _ _ _ _ _ so_far.before one.left frame one.all_are one.few so_far.written
-      (rw c.deref.ensures.value at c.in_err-write_all.ensures.front);
+      frames_prefix _ _ _ _ _ so_far.before one.left frame one.all_are one.few so_far.written
+      (rw c.deref.ensures.value at c.in_err-write_all.ensures.prefix);
   flushed = search rules;
   failures_never_fall = search rules;
   failed = search rules;
@@ -90,9 +90,10 @@ pub returns-in_err-flush-clause-sent : goal.returns-in_err-flush-clause-sent
 returns-in_err-flush-clause-sent g c = record {
   whole = search rules;
   few = search rules;
-  front =
+  prefix =
       let so_far = c.loop-frame.invariant in
-      prefix_kept _ _ _ _ (frames_before _ _ _ _ so_far.before _ so_far.replies.all_are so_far.replies.few so_far.written)
+      prefix_kept _ _ _ _ (frames_before _ _ _ _ so_far.before _ so_far.replies.all_are so_far.replies.few
+          so_far.written)
       c.flush.ensures.bytes;
   flushed = search rules;
   failures_never_fall = search rules;
@@ -111,9 +112,10 @@ returns-clause-sent g c = record {
       let all = all_replied (reply_left c.args.giver.now.stage) c.args.giver.now.limit c.loop-frame.giver
       c.next_frame.new.self so_far.before so_far.replies (rw c.in_default.is at c.in_ok-frame.ensures.sent.given) in
       omega (arith, so_far.replies.few, ap length all);
-  front =
+  prefix =
       let so_far = c.loop-frame.invariant in
-      prefix_kept _ _ _ _ (frames_before _ _ _ _ so_far.before _ so_far.replies.all_are so_far.replies.few so_far.written)
+      prefix_kept _ _ _ _ (frames_before _ _ _ _ so_far.before _ so_far.replies.all_are so_far.replies.few
+          so_far.written)
       c.flush.ensures.bytes;
   flushed = search rules;
   failures_never_fall = search rules;

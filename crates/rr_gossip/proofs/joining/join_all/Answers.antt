@@ -17,8 +17,8 @@ join_cell-requires g c =
     subst (λ l. IsCellOf l (owned_cell cell)) (sym kept.0)
     (subst (λ d. IsCellOf s (owned_cell d)) item (c.requires i cell c.loop-cell-test.true))
 
-pub returns-in_err-join_cell-clause-front : goal.returns-in_err-join_cell-clause-front
-returns-in_err-join_cell-clause-front g c =
+pub returns-in_err-join_cell-clause-prefix : goal.returns-in_err-join_cell-clause-prefix
+returns-in_err-join_cell-clause-prefix g c =
     let cells = c.args.cells.now in
     let i = c.loop-cell.cell-index in
     let so_far = map owned_cell (take i cells) in

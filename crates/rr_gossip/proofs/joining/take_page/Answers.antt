@@ -5,7 +5,7 @@ use Rattle.rr_cells.specs.Listing.{owned_cell}
 use Rattle.rr_gossip.specs.declared.fault.GossipFault.TheVariants.{Memory}
 use Rattle.rr_gossip.specs.declared.puller.Stage.TheVariants.{Waiting}
 use Rattle.rr_gossip.specs.Puller.{page_taken}
-use Rattle.rr_gossip.proofs.JoinLemmas.{page_front, memory_taken}
+use Rattle.rr_gossip.proofs.JoinLemmas.{page_prefix, memory_taken}
 use Rattle.rr_gossip.proofs.joining.take_page.Goals as goal
 
 pub join_all-requires : goal.join_all-requires
@@ -23,11 +23,11 @@ returns-in_err-join_all-clause-taken g c =
     let es = map owned_cell c.in_ok-cells.cells.items in
     let read : page_at s body ≡ Ok es = subst (λ l. page_at l body ≡ Ok es) c.schema.ensures.value
     c.in_ok-cells.ensures.reads.exact in
-    let front = c.in_err-join_all.ensures.front in
+    let prefix = c.in_err-join_all.ensures.prefix in
     let memory : c.from_residual-in_err-join_all.result ≡ Err Memory = search rules in
-    memory_taken joined Waiting c.from_residual-in_err-join_all.result (page_taken s body) (take front.0 es) memory
-    (page_front s body es front.0 read)
-    (subst (λ l. joined (take front.0 (map owned_cell l))) c.deref.ensures.value front.1)
+    memory_taken joined Waiting c.from_residual-in_err-join_all.result (page_taken s body) (take prefix.0 es) memory
+    (page_prefix s body es prefix.0 read)
+    (subst (λ l. joined (take prefix.0 (map owned_cell l))) c.deref.ensures.value prefix.1)
 
 pub returns-clause-taken : goal.returns-clause-taken
 unfolding page_taken

@@ -3,7 +3,7 @@ use Rattle.std.specs.Io.KnownBytes.{Appends}
 use Rattle.std.proofs.KnownBytes.{Appends-kept, Appends-nil, Appends-trans}
 use Rattle.std.proofs.lemmas.Result.{err_from_is_err_and}
 use Rattle.rr_io.proofs.StreamLemmas.{prefix_kept}
-use Rattle.rr_gossip.proofs.SendLemmas.{all_sent, cannot_send, concat_more, first_sends, frames_before, frames_front, frames_whole, not_written, one_sent}
+use Rattle.rr_gossip.proofs.SendLemmas.{all_sent, cannot_send, concat_more, first_sends, frames_before, frames_prefix, frames_whole, not_written, one_sent}
 use Rattle.rr_gossip.proofs.StepLemmas.{err_is}
 use Rattle.rr_gossip.proofs.pulling.send_names.Goals as goal
 
@@ -23,7 +23,7 @@ pub returns-in_err-frame-clause-sent : goal.returns-in_err-frame-clause-sent
 returns-in_err-frame-clause-sent g c = record {
   whole = search rules;
   few = search rules;
-  front =
+  prefix =
       let so_far = c.loop-frame.invariant in
       frames_before _ _ _ _ so_far.before _ so_far.sends.all so_far.sends.few so_far.written;
   flushed = search rules;
@@ -50,15 +50,15 @@ pub returns-in_err-write_all-clause-sent : goal.returns-in_err-write_all-clause-
 returns-in_err-write_all-clause-sent g c = record {
   whole = search rules;
   few = search rules;
-  front =
+  prefix =
       let so_far = c.loop-frame.invariant in
       let m = g.T.Target.cells c.args.target.now in
       let s = g.T.Target.layout c.args.target.now in
       let frame = c.in-Some.frame.items in
       let one = one_sent m s c.args.puller.now.limit c.loop-frame.puller c.next_frame.new.self so_far.before frame
       so_far.sends (rw c.in-Some.is at c.in_ok-frame.ensures.given) in
-      frames_front _ _ _ _ _ so_far.before one.left frame one.all one.few so_far.written
-      (rw c.deref.ensures.value at c.in_err-write_all.ensures.front);
+      frames_prefix _ _ _ _ _ so_far.before one.left frame one.all one.few so_far.written
+      (rw c.deref.ensures.value at c.in_err-write_all.ensures.prefix);
   flushed = search rules;
   failures_never_fall = search rules;
   failed = search rules;
@@ -93,9 +93,10 @@ pub returns-in_err-flush-clause-sent : goal.returns-in_err-flush-clause-sent
 returns-in_err-flush-clause-sent g c = record {
   whole = search rules;
   few = search rules;
-  front =
+  prefix =
       let so_far = c.loop-frame.invariant in
-      prefix_kept _ _ _ _ (frames_before _ _ _ _ so_far.before _ so_far.sends.all so_far.sends.few so_far.written) c.flush.ensures.bytes;
+      prefix_kept _ _ _ _ (frames_before _ _ _ _ so_far.before _ so_far.sends.all so_far.sends.few so_far.written)
+          c.flush.ensures.bytes;
   flushed = search rules;
   failures_never_fall = search rules;
   failed = search rules;
@@ -119,9 +120,10 @@ returns-clause-sent g c = record {
       so_far.sends
       (rw c.in_default.is at c.in_ok-frame.ensures.given) in
       omega (arith, so_far.sends.few, ap length all.0);
-  front =
+  prefix =
       let so_far = c.loop-frame.invariant in
-      prefix_kept _ _ _ _ (frames_before _ _ _ _ so_far.before _ so_far.sends.all so_far.sends.few so_far.written) c.flush.ensures.bytes;
+      prefix_kept _ _ _ _ (frames_before _ _ _ _ so_far.before _ so_far.sends.all so_far.sends.few so_far.written)
+          c.flush.ensures.bytes;
   flushed = search rules;
   failures_never_fall = search rules;
   failed = search rules;

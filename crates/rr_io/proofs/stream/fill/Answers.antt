@@ -14,17 +14,17 @@ loop-filled-preserved g c =
     let bound : given ≤ length new = c.in_ok-given.ensures.read.bound.0 in
     let part = length-take-le (length old - at) (drop at old) (omega (arith, length-drop at old)) in
     let same = same_len_mid at (length old - at) old new (c.read_some.auto.buf) in
-    let front = filled_more old new at given (omega arith) bound in
+    let prefix = filled_more old new at given (omega arith) bound in
     let taken = Consumes-trans _ _ _ _ _ c.loop-filled.invariant.taken (c.in_ok-given.ensures.read.bytes.0) in
     record {
       within = omega (arith, same, part, c.read_some.auto.buf);
-      taken = rw (front) taken;
+      taken = rw (prefix) taken;
       count = search rules;
     }
 
 pub returns-then-given-eq0-clause-stream : goal.returns-then-given-eq0-clause-stream
 returns-then-given-eq0-clause-stream g c = record {
-  front = search rules;
+  prefix = search rules;
   most =
       let old = c.loop-filled.buf in
       let new = c.read_some.new.buf in

@@ -3,7 +3,7 @@ use Rattle.std.specs.Io.KnownBytes.{Consumes}
 use Rattle.rr_io.specs.Counted.{inner_of, failures_of}
 use Rattle.rr_io.proofs.stream.fill.Given as goal
 
--- the front of the buffer is what was read so far
+-- the prefix of the buffer is what was read so far
 abbrev pub invariant-loop-filled : goal.invariant-loop-filled
 invariant-loop-filled g l = record {
   within : l.filled ≤ length l.buf;

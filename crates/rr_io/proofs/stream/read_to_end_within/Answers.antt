@@ -1,14 +1,14 @@
 use Rattle.std.proofs.Common.{rules, ◌<◌, ◌∙◌, take, length, arith}
 use Rattle.std.proofs.KnownBytes.{Consumes-trans}
 use Rattle.std.proofs.lemmas.List.{length-take}
-use Rattle.rr_io.proofs.StreamLemmas.{added_more, front_of_added}
+use Rattle.rr_io.proofs.StreamLemmas.{added_more, prefix_of_added}
 use Rattle.rr_io.proofs.stream.read_to_end_within.Goals as goal
 
 pub returns-in_err-extend_from_slice : goal.returns-in_err-extend_from_slice
 returns-in_err-extend_from_slice g c = record {
   whole = search rules;
   consumed = search rules;
-  front = front_of_added _ _ _ _ _ c.loop.invariant.added c.in_err-extend_from_slice.ensures.items;
+  prefix = prefix_of_added _ _ _ _ _ c.loop.invariant.added c.in_err-extend_from_slice.ensures.items;
   failures_never_fall = search rules;
   limit = search rules;
   failed = search rules;
@@ -32,7 +32,7 @@ pub returns-then-given-eq0 : goal.returns-then-given-eq0
 returns-then-given-eq0 g c = record {
   whole = search rules;
   consumed = search rules;
-  front = search rules;
+  prefix = search rules;
   failures_never_fall = search rules;
   limit = search rules;
   failed = search rules;

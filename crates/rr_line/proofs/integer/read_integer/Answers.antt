@@ -21,7 +21,7 @@ returns c =
     c.in_ok-size.ensures in
     let marked : c.in_ok-size.marked.now ≡ INTEGER_MARK ∷ rest =
     strip_some INTEGER_MARK c.in_ok-size.marked.now rest (search rules) in
-    let read : Some number ≡ integer_at is.front = c.in_ok-number.ensures ∙ ap integer_at is.taken in
+    let read : Some number ≡ integer_at is.prefix = c.in_ok-number.ensures ∙ ap integer_at is.taken in
     let kept : to_z w64 (of_z w64 number) ≡ number = search rules in
-    let whole = is.whole ∙ ap (λ (t : List ℕ). is.front ++ t) marked in
-    rw kept (integer_value text is.front rest number whole (search rules) read)
+    let whole = is.whole ∙ ap (λ (t : List ℕ). is.prefix ++ t) marked in
+    rw kept (integer_value text is.prefix rest number whole (search rules) read)

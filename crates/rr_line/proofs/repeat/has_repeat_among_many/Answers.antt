@@ -8,7 +8,8 @@ pub loop-entry-preserved : goal.loop-entry-preserved
 loop-entry-preserved g c = record {
   long = length-set c.loop-entry.keys c.loop-entry.count c.key.result ∙ c.loop-entry.invariant.long;
   counted = omega (arith, c.loop-entry.invariant.counted);
-  front = one_key_more g.T.Keyed.key_of c.loop-entry.keys c.args.entries.now c.loop-entry.count c.loop-entry.entry-index
+  prefix = one_key_more g.T.Keyed.key_of c.loop-entry.keys c.args.entries.now c.loop-entry.count
+      c.loop-entry.entry-index
       c.entry-item.result c.key.result c.loop-entry.invariant.long c.requires c.loop-entry.invariant.counted
-      c.loop-entry-test.true c.entry-item.is c.key.ensures c.loop-entry.invariant.front;
+      c.loop-entry-test.true c.entry-item.is c.key.ensures c.loop-entry.invariant.prefix;
 }

@@ -22,13 +22,13 @@ loop-preserved g c =
     let old = c.loop.values.items in
     let key = c.in_ok-key-2.key.now in
     let value = c.in_ok-value-2.value in
-    let said = c.next_field.ensures c.args.line.now (map keyed_value old) c.loop.invariant.read in
+    let parsed = c.next_field.ensures c.args.line.now (map keyed_value old) c.loop.invariant.read in
     let was : c.next_field.result ≡ Some (value, c.in_ok-value-2.next) = search rules in
     let back : to_z w64 (of_z w64 value) ≡ value = search rules in
     let pushed : c.push-in-loop.new.self.items ≡ old ++ c.in_ok-keyed-2.field-0 ∷ [] = search rules in
     let keyed : keyed_value c.in_ok-keyed-2.field-0 ≡ (key, value) = rw back at c.in_ok-keyed-2.ensures in
     let read : HasRead c.args.line.now (map keyed_value old ++ (key, value) ∷ []) c.in_ok-value-2.next =
-    rw was at said in
+    rw was at parsed in
     let more = more_values old c.push-in-loop.new.self.items c.in_ok-keyed-2.field-0 (key, value) pushed keyed in
     record {
       read = subst (λ (ss : List Sample). HasRead c.args.line.now ss c.in_ok-value-2.next) (sym more) read;

@@ -2,7 +2,7 @@ use Rattle.std.proofs.Common.{[], ◌++◌, map, nat_lt, sym, ◌+◌}
 use Rattle.std.proofs.Math.ListN.{drop_of_length-le}
 use Rattle.std.proofs.lemmas.Result.{err_from_is_err_and}
 use Rattle.std.specs.String.{string_bytes}
-use Rattle.rr_node.specs.Peers.{told_of_peer}
+use Rattle.rr_node.specs.Peers.{reported_of_peer}
 use Rattle.rr_host.proofs.CallsLemmas.{grows_not, grows_on}
 use Rattle.rr_node.proofs.PeersLemmas.{all_past, next_left, one_past, stops_here}
 use Rattle.rr_node.proofs.peers.pull_peers.Goals as goal
@@ -32,12 +32,13 @@ loop-place-preserved g c =
     let left = next_left string_bytes c.args.peers.now c.loop-place.place c.index-peers-place.result c.deref.result.now
     c.loop-place-test.true c.index-peers-place.is c.deref.ensures in
     let ended = rw (sym c.in_ok-fault.ensures.skipped.0) at p.2 in
-    let said = rw (c.next_number-next.ensures, c.next_number.ensures) at c.tell.ensures in (
+    let parsed = rw (c.next_number-next.ensures, c.next_number.ensures) at c.tell.ensures in (
       k.0 ++ p.0,
-      k.1 ++ told_of_peer (c.loop-place.place + 1) (nat_lt c.loop-place.keeper.next c.pull_from-pulled.new.keeper.next)
+      k.1 ++ reported_of_peer (c.loop-place.place + 1)
+          (nat_lt c.loop-place.keeper.next c.pull_from-pulled.new.keeper.next)
           c.in_ok-fault.fault,
       grows_on _ _ _ _ _ k.2 p.1,
-      grows_on _ _ _ _ _ k.3 said,
+      grows_on _ _ _ _ _ k.3 parsed,
       one_past _ _ _ _ _ _ _ k.0 p.0 k.1 c.in_ok-fault.fault (rw left at k.4) c.in_ok-fault.ensures.skipped.1 ended,
     )
 

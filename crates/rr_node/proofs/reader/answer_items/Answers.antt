@@ -2,7 +2,7 @@ use Rattle.std.proofs.Common.{◌≡◌, None, Option, refl, sym, subst, ◌∙�
 use Rattle.rr_feed.specs.Feed.{FeedState, HandsOut}
 use Rattle.rr_feed.specs.Items.{Item}
 use Rattle.rr_feed.proofs.FedLemmas.{items_left-handed}
-use Rattle.rr_node.proofs.FetchesLemmas.{cut_before, cut_within, front_kept, next_err, next_none, next_some, on_err, written_more}
+use Rattle.rr_node.proofs.FetchesLemmas.{cut_before, cut_within, prefix_kept, next_err, next_none, next_some, on_err, written_more}
 use Rattle.rr_node.proofs.reader.answer_items.Goals as goal
 
 hands_so : (f g : FeedState) (a b : Option Item) → a ≡ b → HandsOut f a g → HandsOut f b g
@@ -21,7 +21,7 @@ returns-in_err-write_all-clause-part_written g c =
     let x = next_some _ _ next.0 _ _ _ next.2 in
     on_err c.from_residual-in_err-write_all.result _
     (cut_within _ _ _ _ _ _ _ _ _ x.0 _ c.loop-text.invariant.written (hands_so _ _ _ _ x.1 next.1) x.2
-    (rw c.deref.ensures.value at c.in_err-write_all.ensures.front))
+    (rw c.deref.ensures.value at c.in_err-write_all.ensures.prefix))
 
 pub loop-text-preserved : goal.loop-text-preserved
 loop-text-preserved g c =
@@ -37,7 +37,7 @@ pub returns-in_err-flush-clause-part_written : goal.returns-in_err-flush-clause-
 returns-in_err-flush-clause-part_written g c =
     let next = rw c.in_default.is at c.in_ok-text.ensures in
     let x = next_none _ _ next.0 _ _ next.2 in
-    on_err c.from_residual-in_err-flush.result _ (front_kept _ _ _ _ _ _ _ _ _ c.loop-text.invariant.written
+    on_err c.from_residual-in_err-flush.result _ (prefix_kept _ _ _ _ _ _ _ _ _ c.loop-text.invariant.written
     (hands_so _ _ _ _ x.0 next.1) x.1 c.in_err-flush.ensures.bytes)
 
 pub returns-clause-all_taken : goal.returns-clause-all_taken

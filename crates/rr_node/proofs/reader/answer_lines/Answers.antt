@@ -5,7 +5,7 @@ use Rattle.rr_io.specs.Counted.{inner_of}
 use Rattle.rr_feed.specs.Feed.{FeedState}
 use Rattle.rr_node.specs.Fetches.{sight, HasAnswered, HasAnsweredSome}
 use Rattle.rr_node.proofs.FetchesLemmas.{on_either, on_err, on_ok_both, seen_more, seen_same}
-use Rattle.rr_node.proofs.ServingLemmas.{all_answered, front_of_some, front_so_far, none_answered, of_all_taken, of_each, seen_in_some, seen_in_written, seen_so_far, so_far_answered, so_far_first, so_far_pushed, so_far_same, some_answered, whole_so_far}
+use Rattle.rr_node.proofs.ServingLemmas.{all_answered, prefix_of_some, prefix_so_far, none_answered, of_all_taken, of_each, seen_in_some, seen_in_written, seen_so_far, so_far_answered, so_far_first, so_far_pushed, so_far_same, some_answered, whole_so_far}
 use Rattle.rr_node.proofs.reader.answer_lines.Goals as goal
 
 pub returns-in_err-push-clause-part_written : goal.returns-in_err-push-clause-part_written
@@ -17,7 +17,7 @@ pub returns-in_err-answer_items-clause-part_written : goal.returns-in_err-answer
 returns-in_err-answer_items-clause-part_written g c =
     let is = c.in_ok-push.ensures ∙ ap (λ (s : FeedState). record s { left = s.left ++ c.args.first ∷ [] })
     c.new-feed.ensures in
-    on_err _ _ (front_of_some c.args.first _ _ (g.R.Read.remaining (inner_of c.args.input.now)) _ _ _ _ _ _ _
+    on_err _ _ (prefix_of_some c.args.first _ _ (g.R.Read.remaining (inner_of c.args.input.now)) _ _ _ _ _ _ _
     (so_far_first c.args.first _ _ _ _ is) (ap (λ (s : FeedState). s.ended) is)
     c.in_err-answer_items.ensures.part_written)
 
@@ -43,7 +43,7 @@ loop-init g c =
 
 pub returns-in_err-given-clause-part_written : goal.returns-in_err-given-clause-part_written
 returns-in_err-given-clause-part_written g c =
-    on_err _ _ (front_so_far c.args.first _ _ _ _ _ _ _ _ c.loop.invariant.so_far c.loop.invariant.going (seen_same _))
+    on_err _ _ (prefix_so_far c.args.first _ _ _ _ _ _ _ _ c.loop.invariant.so_far c.loop.invariant.going (seen_same _))
 
 pub returns-in_err-given-clause-at_once : goal.returns-in_err-given-clause-at_once
 returns-in_err-given-clause-at_once g c =
@@ -108,7 +108,7 @@ returns-then-given-eq0-clause-seen g c =
 
 pub returns-in_err-push-2-clause-part_written : goal.returns-in_err-push-2-clause-part_written
 returns-in_err-push-2-clause-part_written g c =
-    on_err _ _ (front_so_far c.args.first _ _ _ _ _ _ _ _ c.loop.invariant.so_far c.loop.invariant.going (seen_same _))
+    on_err _ _ (prefix_so_far c.args.first _ _ _ _ _ _ _ _ c.loop.invariant.so_far c.loop.invariant.going (seen_same _))
 
 pub returns-in_err-push-2-clause-seen : goal.returns-in_err-push-2-clause-seen
 returns-in_err-push-2-clause-seen g c = seen_so_far c.args.first _ _ _ _ _ _ _ c.loop.invariant.so_far
@@ -119,7 +119,7 @@ returns-in_err-answer_items-2-clause-part_written g c =
     let read = rw c.in-Some.is at c.in_ok-given.ensures.bytes in
     let now = so_far_pushed c.args.first _ _ _ _ _ _ _ _ _ _ c.loop.invariant.so_far going read.1
     c.in_ok-push-2.ensures in
-    on_err _ _ (front_of_some c.args.first _ _ _ _ _ _ _ _ _ _ now
+    on_err _ _ (prefix_of_some c.args.first _ _ _ _ _ _ _ _ _ _ now
     (ap (λ (s : FeedState). s.ended) c.in_ok-push-2.ensures ∙ going) c.in_err-answer_items-2.ensures.part_written)
 
 pub returns-in_err-answer_items-2-clause-seen : goal.returns-in_err-answer_items-2-clause-seen
@@ -147,7 +147,7 @@ loop-preserved g c =
     }
 
 pub returns-clause-part_written : goal.returns-clause-part_written
-returns-clause-part_written g c = front_so_far c.args.first _ _ _ _ _ _ _ _ c.loop.invariant.so_far
+returns-clause-part_written g c = prefix_so_far c.args.first _ _ _ _ _ _ _ _ c.loop.invariant.so_far
     c.loop.invariant.going (seen_same _)
 
 pub returns-clause-at_once : goal.returns-clause-at_once

@@ -32,7 +32,7 @@ returns-in_err-save_to-clause-round g c =
     let p = rw c.in-Taken.is at c.in_ok-report.ensures in
     let q = c.in_ok-pull_peers.ensures in
     let s = c.in_err-save_to.ensures in
-    let told = c.end_pulls.ensures in
+    let reported = c.end_pulls.ensures in
     let done = rw c.deref.ensures.value at q.4 in
     rw e.1 (
       p.0,
@@ -41,8 +41,8 @@ returns-in_err-save_to-clause-round g c =
       p.1,
       q.2,
       grows_on _ _ _ _ _ c.lines_taken.ensures
-          (grows_on _ _ _ _ _ q.3 (grows_on _ _ _ _ _ told.1 s.1)),
-      inr (_, _, _, p.2, inr (q.1, s.0, told.0, done, inr (refl, s.2), refl), refl),
+          (grows_on _ _ _ _ _ q.3 (grows_on _ _ _ _ _ reported.1 s.1)),
+      inr (_, _, _, p.2, inr (q.1, s.0, reported.0, done, inr (refl, s.2), refl), refl),
     )
 
 pub returns-clause-round : goal.returns-clause-round
@@ -50,7 +50,7 @@ returns-clause-round g c =
     let p = rw c.in-Taken.is at c.in_ok-report.ensures in
     let q = c.in_ok-pull_peers.ensures in
     let s = c.in_ok-save_to.ensures in
-    let told = c.end_pulls.ensures in
+    let reported = c.end_pulls.ensures in
     let done = rw c.deref.ensures.value at q.4 in (
       p.0,
       q.0,
@@ -58,8 +58,8 @@ returns-clause-round g c =
       p.1,
       q.2,
       grows_on _ _ _ _ _ c.lines_taken.ensures
-          (grows_on _ _ _ _ _ q.3 (grows_on _ _ _ _ _ told.1 s.1)),
-      inr (_, _, _, p.2, inr (q.1, s.0, told.0, done, inl (refl, s.2), refl), refl),
+          (grows_on _ _ _ _ _ q.3 (grows_on _ _ _ _ _ reported.1 s.1)),
+      inr (_, _, _, p.2, inr (q.1, s.0, reported.0, done, inl (refl, s.2), refl), refl),
     )
 
 pub returns-in_default-clause-round : goal.returns-in_default-clause-round

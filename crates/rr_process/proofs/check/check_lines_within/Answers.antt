@@ -10,16 +10,16 @@ use Rattle.rr_io.specs.Stream.{AppendsPrefix}
 use Rattle.rr_feed.specs.Feed.{FeedState}
 use Rattle.rr_process.specs.Report.{report_of, refused_count}
 use Rattle.rr_process.proofs.ReportLemmas.{HasReported-push}
-use Rattle.rr_process.proofs.StreamLemmas.{front_so_far, of_all_bytes, of_all_taken, may_come}
+use Rattle.rr_process.proofs.StreamLemmas.{prefix_so_far, of_all_bytes, of_all_taken, may_come}
 use Rattle.rr_process.proofs.check.check_lines_within.Goals as goal
 
 pub returns-in_err-given : goal.returns-in_err-given
 returns-in_err-given g c = record {
   printed = record {
     whole = search rules;
-    front =
+    prefix =
         let now = c.loop.invariant.now ∙ to_z-of_z {w = w64} {z = c.args.now} (search rules) in
-        rw (c.loop.invariant.precision, now) at (front_so_far c.loop.checker _ _ _ _ c.loop.invariant.going
+        rw (c.loop.invariant.precision, now) at (prefix_so_far c.loop.checker _ _ _ _ c.loop.invariant.going
         c.loop.invariant.written);
     read = search rules;
     write_failed = search rules;
@@ -42,17 +42,17 @@ returns-then-given-eq0 g c = record {
         so_far.consumed read.1 c.if-given-eq0.true (read.2 c.if-given-eq0.true (search rules))
         (rw (c.loop.invariant.precision, now) at (report so_far.taken so_far.text start so_far.reported
         so_far.appended))) c.finish.ensures.reported;
-    front =
+    prefix =
         let so_far = c.loop.invariant.written in
         let start = g.W.Write.contents (inner_of c.args.output.now) in
         let P : List ℕ → Type 0 = λ bytes. AppendsPrefix start (g.W.Write.contents (inner_of c.finish.new.output))
         (report_of c.args.precision c.args.now bytes) in
         let read = rw c.in-Some.is at c.in_ok-given.ensures.bytes in
         let now = c.loop.invariant.now ∙ to_z-of_z {w = w64} {z = c.args.now} (search rules) in
-        let front = rw (c.loop.invariant.precision, now) at
-        (c.finish.ensures.front so_far.taken so_far.text start so_far.reported so_far.appended) in
+        let prefix = rw (c.loop.invariant.precision, now) at
+        (c.finish.ensures.prefix so_far.taken so_far.text start so_far.reported so_far.appended) in
         of_all_taken _ _ _ so_far.taken c.read_once.new.buf c.in-Some.given P so_far.consumed read.1 c.if-given-eq0.true
-        (read.2 c.if-given-eq0.true (search rules)) front;
+        (read.2 c.if-given-eq0.true (search rules)) prefix;
     read = search rules;
     write_failed = search rules;
   };
@@ -70,9 +70,9 @@ pub returns-in_err-push : goal.returns-in_err-push
 returns-in_err-push g c = record {
   printed = record {
     whole = search rules;
-    front =
+    prefix =
         let now = c.loop.invariant.now ∙ to_z-of_z {w = w64} {z = c.args.now} (search rules) in
-        rw (c.loop.invariant.precision, now) at (front_so_far c.loop.checker _ _ _ _ c.loop.invariant.going
+        rw (c.loop.invariant.precision, now) at (prefix_so_far c.loop.checker _ _ _ _ c.loop.invariant.going
         c.loop.invariant.written);
     read = search rules;
     write_failed = search rules;
@@ -85,7 +85,7 @@ pub returns-in_err-write_items : goal.returns-in_err-write_items
 returns-in_err-write_items g c = record {
   printed = record {
     whole = search rules;
-    front =
+    prefix =
         let so_far = c.loop.invariant.written in
         let start = g.W.Write.contents (inner_of c.args.output.now) in
         let P : List ℕ → Type 0 = λ bytes. AppendsPrefix start (g.W.Write.contents (inner_of c.write_items.new.output))
@@ -101,7 +101,7 @@ returns-in_err-write_items g c = record {
         ∙ c.loop.invariant.going in
         of_all_bytes _ _ (so_far.taken ++ piece) P (Consumes-trans _ _ _ _ _ so_far.consumed
         (rw c.in-Some.is at c.in_ok-given.ensures.bytes).1)
-        (λ more. rw (precision, now) at (c.in_err-write_items.ensures.front (so_far.taken ++ piece) so_far.text more
+        (λ more. rw (precision, now) at (c.in_err-write_items.ensures.prefix (so_far.taken ++ piece) so_far.text more
         start pushed so_far.appended (may_come c.push.new.self more going)));
     read = search rules;
     write_failed = search rules;
@@ -163,9 +163,9 @@ pub returns : goal.returns
 returns g c = record {
   printed = record {
     whole = search rules;
-    front =
+    prefix =
         let now = c.loop.invariant.now ∙ to_z-of_z {w = w64} {z = c.args.now} (search rules) in
-        rw (c.loop.invariant.precision, now) at (front_so_far c.loop.checker _ _ _ _ c.loop.invariant.going
+        rw (c.loop.invariant.precision, now) at (prefix_so_far c.loop.checker _ _ _ _ c.loop.invariant.going
         c.loop.invariant.written);
     read = search rules;
     write_failed = search rules;

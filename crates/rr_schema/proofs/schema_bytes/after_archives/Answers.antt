@@ -22,10 +22,10 @@ returns-in_default c =
     let archives = c.args.archives.items.now in
     let bytes = c.args.bytes.now in
     let i = c.loop-archive.archive-index in
-    let front = flat_map archive_bytes (take i archives) in
+    let prefix = flat_map archive_bytes (take i archives) in
     let one = archive_bytes (get_or archives i any) in
-    let missing : IsAfter (front ++ one) bytes None =
-    second_after front one bytes c.loop-archive.left.now None c.loop-archive.invariant c.in_default.ensures in
+    let missing : IsAfter (prefix ++ one) bytes None =
+    second_after prefix one bytes c.loop-archive.left.now None c.loop-archive.invariant c.in_default.ensures in
     let so_far : IsAfter (flat_map archive_bytes (take (i + 1) archives)) bytes None =
     subst (λ (l : List ℕ). IsAfter l bytes None) (archives_so_far archives i any c.loop-archive-test.true)
     missing in

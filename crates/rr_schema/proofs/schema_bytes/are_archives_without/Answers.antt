@@ -20,9 +20,9 @@ pub returns-in-Some : goal.returns-in-Some
 returns-in-Some c =
     let i = c.args.number in
     let archives = c.args.archives.items.now in
-    let front = flat_map archive_bytes (take i archives) in
+    let prefix = flat_map archive_bytes (take i archives) in
     let others = flat_map archive_bytes (drop (i + 1) archives) in
     let parts = flat_map-append archive_bytes (take i archives) (drop (i + 1) archives) in
-    let same = same_after front c.args.bytes.now c.in-Some.rest.now others c.in-Some.ensures in
+    let same = same_after prefix c.args.bytes.now c.in-Some.rest.now others c.in-Some.ensures in
     let is = rw c.split_at.ensures.back at c.are_archives.ensures in
     ((λ t. same.1 (is.0 t) ∙ sym parts), λ e. is.1 (same.0 (e ∙ parts)))

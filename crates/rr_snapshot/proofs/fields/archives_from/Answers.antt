@@ -4,7 +4,7 @@ use Rattle.std.proofs.lemmas.List.{length-take}
 use Rattle.std.proofs.lemmas.Result.{err_from_is_err_and}
 use Rattle.rr_io.specs.Counted.{inner_of}
 use Rattle.rr_snapshot.specs.SnapshotReading.{archives_at}
-use Rattle.rr_snapshot.proofs.PieceLemmas.{piece_ok, piece_err, IsFront-archives, HasWidth-archives}
+use Rattle.rr_snapshot.proofs.PieceLemmas.{piece_ok, piece_err, ReadsPrefix-archives, HasWidth-archives}
 use Rattle.rr_snapshot.proofs.fields.archives_from.Goals as goal
 
 pub returns-clause-read : goal.returns-clause-read
@@ -16,7 +16,7 @@ returns-clause-read g c =
     let most = c.in_ok-got.ensures.more.1 in
     let few : length (take c.in_ok-got.got buf) ≤ 9 * n + 2 = omega (arith, length-take c.in_ok-got.got buf, most) in
     let took = c.in_ok-got.ensures.bytes in
-    piece_ok (9 * n + 2) (archives_at v s n) (IsFront-archives v s n) (HasWidth-archives v s n)
+    piece_ok (9 * n + 2) (archives_at v s n) (ReadsPrefix-archives v s n) (HasWidth-archives v s n)
     (take c.in_ok-got.got buf) few (g.R.Read.remaining (inner_of c.args.input.now))
     (g.R.Read.remaining (inner_of c.fill_up_to.new.input)) (c.in_ok-addition.addition, c.in_ok-addition.origin) _
     (subst (Consumes _ _) (sym took.1) took.2) c.in_ok-addition.ensures.found.read
@@ -36,7 +36,7 @@ returns-in_err-addition-clause-read g c =
     let took = c.in_ok-got.ensures.bytes in
     let p = err_from_is_err_and c.from_residual-in_err-addition.result c.from_residual-in_err-addition.ensures.1 in
     rw (p.1, p.2)
-    (inr (inr (piece_err (9 * n + 2) (archives_at v s n) (IsFront-archives v s n) (HasWidth-archives v s n)
+    (inr (inr (piece_err (9 * n + 2) (archives_at v s n) (ReadsPrefix-archives v s n) (HasWidth-archives v s n)
     (take c.in_ok-got.got buf) few (g.R.Read.remaining (inner_of c.args.input.now))
     (g.R.Read.remaining (inner_of c.fill_up_to.new.input)) _ (subst (Consumes _ _) (sym took.1) took.2)
     (λ lt. c.in_ok-got.ensures.end (omega (arith, got_len, lt)))

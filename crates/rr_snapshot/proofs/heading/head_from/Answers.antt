@@ -14,7 +14,7 @@ use Rattle.rr_snapshot.specs.declared.fault.LoadFault.TheVariants.{BadOrigin}
 use Rattle.rr_snapshot.specs.declared.heading.Head.{Head}
 use Rattle.rr_snapshot.specs.SnapshotReading.{as_in_page, start_at, archives_at, head_at}
 use Rattle.rr_snapshot.proofs.BodyLemmas.{counted, after_archives, after_start}
-use Rattle.rr_snapshot.proofs.FrontLemmas.{loads_then, loads_then_refused, took_more}
+use Rattle.rr_snapshot.proofs.PrefixLemmas.{loads_then, loads_then_refused, took_more}
 use Rattle.rr_snapshot.proofs.ChainLemmas.{Gave, passes, refuses, then_gave, then_refused, fails_then, then_fails, Digests-then}
 use Rattle.rr_snapshot.proofs.heading.head_from.Goals as goal
 

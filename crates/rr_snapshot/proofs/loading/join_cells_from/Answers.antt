@@ -16,7 +16,7 @@ use Rattle.rr_page.specs.PageReading.{is_after, last_name}
 use Rattle.rr_page.proofs.LoopLemmas.{last_name_push}
 use Rattle.rr_cells.specs.Listing.{owned_cell}
 use Rattle.rr_replica.specs.ReplicaWithRoom.{replica_state}
-use Rattle.rr_snapshot.proofs.FrontLemmas.{none_read, read_then}
+use Rattle.rr_snapshot.proofs.PrefixLemmas.{none_read, read_then}
 use Rattle.rr_snapshot.proofs.CellsLemmas.{nothing_yet, goes_on_stream, falls_stream, passed_made, done_stream, same_schema, same_schema_read}
 use Rattle.rr_cells.specs.CellBounds.{NamedCell, IsCellOf}
 use Rattle.rr_cells.specs.Joining.{with_named}
@@ -72,7 +72,7 @@ loop-init g c =
         refl,
         HasJoined-none h.addition (replica_state c.args.replica.now),
       );
-      front = none_read old;
+      prefix = none_read old;
       digest = ([], Consumes-nil old, λ m h. subst (Holds256 c.args.hasher.now) (sym (append-nil m)) h);
       count = search rules;
     }
@@ -136,7 +136,7 @@ loop-preserved g c =
             (c.in_ok-join_cell.ensures.state.made ∙ ap (λ (n : CellName). with_named (replica_state c.loop.replica)
             (n, e.1)) name) (c.eq-has_own.ensures ∙ ap (λ (o : ℕ). e.0.origin == o) c.origin-origin.ensures) refl,
       );
-      front = read_then old now new c.loop.invariant.front c.cell_from.ensures.stream.front;
+      prefix = read_then old now new c.loop.invariant.prefix c.cell_from.ensures.stream.prefix;
       digest = (
         digest.0 ++ piece,
         Consumes-trans old now new digest.0 piece digest.1 c.in_ok-cell.ensures.bytes,
@@ -160,7 +160,7 @@ pub returns-in_err-cell-clause-loads : goal.returns-in_err-cell-clause-loads
 returns-in_err-cell-clause-loads g c = record {
   digest = search rules;
   stream = record {
-    front = read_then _ _ _ c.loop.invariant.front c.cell_from.ensures.stream.front;
+    prefix = read_then _ _ _ c.loop.invariant.prefix c.cell_from.ensures.stream.prefix;
     failures_never_fall = search rules;
     failed = search rules;
   };
@@ -184,7 +184,7 @@ pub returns-then-not-is_after-clause-loads : goal.returns-then-not-is_after-clau
 returns-then-not-is_after-clause-loads g c = record {
   digest = search rules;
   stream = record {
-    front = read_then _ _ _ c.loop.invariant.front c.cell_from.ensures.stream.front;
+    prefix = read_then _ _ _ c.loop.invariant.prefix c.cell_from.ensures.stream.prefix;
     failures_never_fall = search rules;
     failed = search rules;
   };
@@ -195,7 +195,7 @@ pub returns-in_err-join_cell-clause-loads : goal.returns-in_err-join_cell-clause
 returns-in_err-join_cell-clause-loads g c = record {
   digest = search rules;
   stream = record {
-    front = read_then _ _ _ c.loop.invariant.front c.cell_from.ensures.stream.front;
+    prefix = read_then _ _ _ c.loop.invariant.prefix c.cell_from.ensures.stream.prefix;
     failures_never_fall = search rules;
     failed = search rules;
   };

@@ -22,6 +22,6 @@ invariant-loop g l = record {
       × HasJoined l.head.addition (replica_state l.initial.replica) (replica_state l.replica) l.has_own es;
   digest : Digests (g.R.Read.remaining (inner_of l.initial.input)) (g.R.Read.remaining (inner_of l.input))
       l.initial.hasher l.hasher;
-  front : ConsumesSome (g.R.Read.remaining (inner_of l.initial.input)) (g.R.Read.remaining (inner_of l.input));
+  prefix : ConsumesSome (g.R.Read.remaining (inner_of l.initial.input)) (g.R.Read.remaining (inner_of l.input));
   count : failures_of l.initial.input ≤ failures_of l.input;
 }

@@ -6,7 +6,7 @@ use Rattle.std.proofs.lemmas.Result.{err_from_is_err_and}
 use Rattle.rr_io.specs.Counted.{inner_of}
 use Rattle.rr_replica.specs.ReplicaWithRoom.{replica_state}
 use Rattle.rr_snapshot.specs.declared.fault.LoadFault.TheVariants.{Memory}
-use Rattle.rr_snapshot.proofs.FrontLemmas.{loads_then, loads_then_refused}
+use Rattle.rr_snapshot.proofs.PrefixLemmas.{loads_then, loads_then_refused}
 use Rattle.rr_snapshot.proofs.BodyLemmas.{body_read}
 use Rattle.rr_snapshot.specs.Loading.{is_among}
 use Rattle.rr_snapshot.proofs.MemoryLemmas.{stops_in_snapshot}

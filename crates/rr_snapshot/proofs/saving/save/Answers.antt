@@ -4,14 +4,14 @@ use Rattle.std.specs.List.{flat_map}
 use Rattle.rr_io.specs.Counted.{inner_of}
 use Rattle.rr_page.specs.CellText.{cell_text}
 use Rattle.rr_page.specs.Version.{latest}
-use Rattle.rr_snapshot.proofs.SaveLemmas.{count_is, piece_is, digest_is, front_of_head, front_of_cells, front_of_digest, written_whole}
-use Rattle.rr_snapshot.proofs.WriteLemmas.{whole_is_front}
+use Rattle.rr_snapshot.proofs.SaveLemmas.{count_is, piece_is, digest_is, prefix_of_head, prefix_of_cells, prefix_of_digest, written_whole}
+use Rattle.rr_snapshot.proofs.WriteLemmas.{whole_is_prefix}
 use Rattle.rr_snapshot.proofs.saving.save.Goals as goal
 
 pub returns-in_err-write_piece-clause-saves : goal.returns-in_err-write_piece-clause-saves
 returns-in_err-write_piece-clause-saves g c = record {
   whole = search rules;
-  front =
+  prefix =
       let es = entries c.args.replica.now.cells in
       let counted = count_is (len c.args.replica.now.cells) c.cell_count-count.result c.cell_count-count.ensures
       (omega (arith, c.if-count.false)) in
@@ -20,8 +20,8 @@ returns-in_err-write_piece-clause-saves g c = record {
       c.origin.ensures (omega (arith, counted, len-entries c.args.replica.now.cells)) in
       let a = g.W.Write.contents (inner_of c.args.output.now) in
       let b = g.W.Write.contents (inner_of c.write_piece.new.output) in
-      front_of_head c.args.replica.now.schema c.args.replica.now.origin es c.deref.result.now is a b
-      c.in_err-write_piece.ensures.writes.front;
+      prefix_of_head c.args.replica.now.schema c.args.replica.now.origin es c.deref.result.now is a b
+      c.in_err-write_piece.ensures.writes.prefix;
   failures_never_fall = search rules;
   failed = search rules;
 }
@@ -29,7 +29,7 @@ returns-in_err-write_piece-clause-saves g c = record {
 pub returns-in_err-write_cells-clause-saves : goal.returns-in_err-write_cells-clause-saves
 returns-in_err-write_cells-clause-saves g c = record {
   whole = search rules;
-  front =
+  prefix =
       let es = entries c.args.replica.now.cells in
       let counted = count_is (len c.args.replica.now.cells) c.cell_count-count.result c.cell_count-count.ensures
       (omega (arith, c.if-count.false)) in
@@ -39,8 +39,8 @@ returns-in_err-write_cells-clause-saves g c = record {
       let a = g.W.Write.contents (inner_of c.args.output.now) in
       let b = g.W.Write.contents (inner_of c.write_piece.new.output) in
       let d = g.W.Write.contents (inner_of c.write_cells.new.output) in
-      front_of_cells c.args.replica.now.schema c.args.replica.now.origin es c.deref.result.now is a b d
-      c.in_ok-write_piece.ensures.writes.whole c.in_err-write_cells.ensures.front;
+      prefix_of_cells c.args.replica.now.schema c.args.replica.now.origin es c.deref.result.now is a b d
+      c.in_ok-write_piece.ensures.writes.whole c.in_err-write_cells.ensures.prefix;
   failures_never_fall = search rules;
   failed = search rules;
 }
@@ -48,7 +48,7 @@ returns-in_err-write_cells-clause-saves g c = record {
 pub returns-in_err-write_all-clause-saves : goal.returns-in_err-write_all-clause-saves
 returns-in_err-write_all-clause-saves g c = record {
   whole = search rules;
-  front =
+  prefix =
       let es = entries c.args.replica.now.cells in
       let counted = count_is (len c.args.replica.now.cells) c.cell_count-count.result c.cell_count-count.ensures
       (omega (arith, c.if-count.false)) in
@@ -63,9 +63,9 @@ returns-in_err-write_all-clause-saves g c = record {
       c.finalize.result (c.finalize.ensures (c.deref.result.now ++ flat_map (cell_text latest) es)
       (c.in_ok-write_cells.ensures.digest c.deref.result.now (c.write_piece.ensures.digest [] c.new-hasher.ensures)))
       in
-      front_of_digest c.args.replica.now.schema c.args.replica.now.origin es c.deref.result.now is a b d e
+      prefix_of_digest c.args.replica.now.schema c.args.replica.now.origin es c.deref.result.now is a b d e
       c.finalize.result c.in_ok-write_piece.ensures.writes.whole c.in_ok-write_cells.ensures.whole digest
-      c.in_err-write_all.ensures.front;
+      c.in_err-write_all.ensures.prefix;
   failures_never_fall = search rules;
   failed = search rules;
 }
@@ -90,7 +90,7 @@ returns-clause-saves g c = record {
       written_whole c.args.replica.now.schema c.args.replica.now.origin es c.deref.result.now is a b d e
       c.finalize.result
       c.in_ok-write_piece.ensures.writes.whole c.in_ok-write_cells.ensures.whole digest c.in_ok-write_all.ensures.whole;
-  front =
+  prefix =
       let es = entries c.args.replica.now.cells in
       let counted = count_is (len c.args.replica.now.cells) c.cell_count-count.result c.cell_count-count.ensures
       (omega (arith, c.if-count.false)) in
@@ -105,7 +105,8 @@ returns-clause-saves g c = record {
       c.finalize.result (c.finalize.ensures (c.deref.result.now ++ flat_map (cell_text latest) es)
       (c.in_ok-write_cells.ensures.digest c.deref.result.now (c.write_piece.ensures.digest [] c.new-hasher.ensures)))
       in
-      whole_is_front a e _ (written_whole c.args.replica.now.schema c.args.replica.now.origin es c.deref.result.now is a
+      whole_is_prefix a e _
+          (written_whole c.args.replica.now.schema c.args.replica.now.origin es c.deref.result.now is a
       b
       d e c.finalize.result c.in_ok-write_piece.ensures.writes.whole c.in_ok-write_cells.ensures.whole digest
       c.in_ok-write_all.ensures.whole);

@@ -11,7 +11,7 @@ use Rattle.rr_page.specs.CellText.{cell_text}
 use Rattle.rr_page.specs.Version.{latest}
 use Rattle.rr_cells.specs.Listing.{seen_cell}
 use Rattle.rr_replica.proofs.InTurn.{next_of_sorted}
-use Rattle.rr_snapshot.proofs.WriteLemmas.{text_more, cells_front, whole_is_front, all_taken, none_left}
+use Rattle.rr_snapshot.proofs.WriteLemmas.{text_more, cells_prefix, whole_is_prefix, all_taken, none_left}
 use Rattle.rr_snapshot.proofs.saving.write_cells.Goals as goal
 
 pub returns-in_default : goal.returns-in_default
@@ -22,10 +22,10 @@ returns-in_default g c = record {
       subst (λ es. Appends (g.W.Write.contents (inner_of c.args.output.now))
       (g.W.Write.contents (inner_of c.loop.output))
       (flat_map (cell_text latest) es)) all c.loop.invariant.written;
-  front =
+  prefix =
       let all = none_left (entries c.args.replica.now.cells) c.loop.counter c.loop.next c.loop.invariant.next
       c.in_default.is in
-      whole_is_front _ _ _ (subst (λ es. Appends (g.W.Write.contents (inner_of c.args.output.now))
+      whole_is_prefix _ _ _ (subst (λ es. Appends (g.W.Write.contents (inner_of c.args.output.now))
       (g.W.Write.contents (inner_of c.loop.output)) (flat_map (cell_text latest) es)) all c.loop.invariant.written);
   digest =
       let all = none_left (entries c.args.replica.now.cells) c.loop.counter c.loop.next c.loop.invariant.next
@@ -40,14 +40,14 @@ returns-in_default g c = record {
 pub returns-in_err-write_cell : goal.returns-in_err-write_cell
 returns-in_err-write_cell g c = record {
   whole = search rules;
-  front =
+  prefix =
       let all = entries c.args.replica.now.cells in
       let at : slice_get all c.loop.counter ≡ Some (seen_cell c.in-Some.cell) = sym c.loop.invariant.next
       ∙ ap (option_map seen_cell) c.in-Some.is in
-      cells_front (cell_text latest) all c.loop.counter (seen_cell c.in-Some.cell)
+      cells_prefix (cell_text latest) all c.loop.counter (seen_cell c.in-Some.cell)
       (g.W.Write.contents (inner_of c.args.output.now)) (g.W.Write.contents (inner_of c.loop.output))
       (g.W.Write.contents (inner_of c.write_cell.new.output)) at c.loop.invariant.written
-      c.in_err-write_cell.ensures.front;
+      c.in_err-write_cell.ensures.prefix;
   digest = search rules;
   fits = search rules;
   failures_never_fall = search rules;
@@ -96,12 +96,12 @@ returns g c = record {
       subst (λ es. Appends (g.W.Write.contents (inner_of c.args.output.now))
       (g.W.Write.contents (inner_of c.loop.output))
       (flat_map (cell_text latest) es)) all c.loop.invariant.written;
-  front =
+  prefix =
       let past = c.loop-test.false in
       let count = c.requires.count_given in
       let all = all_taken (entries c.args.replica.now.cells) c.loop.counter
       (omega (arith, past, count, len-entries c.args.replica.now.cells)) in
-      whole_is_front _ _ _ (subst (λ es. Appends (g.W.Write.contents (inner_of c.args.output.now))
+      whole_is_prefix _ _ _ (subst (λ es. Appends (g.W.Write.contents (inner_of c.args.output.now))
       (g.W.Write.contents (inner_of c.loop.output)) (flat_map (cell_text latest) es)) all c.loop.invariant.written);
   digest =
       let past = c.loop-test.false in

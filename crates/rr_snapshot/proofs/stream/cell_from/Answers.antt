@@ -6,7 +6,7 @@ use Rattle.std.proofs.lemmas.List.{length-take}
 use Rattle.std.proofs.lemmas.Result.{err_from_is_err_and}
 use Rattle.rr_io.specs.Counted.{inner_of}
 use Rattle.rr_cells.specs.Listing.{owned_cell}
-use Rattle.rr_snapshot.proofs.FrontLemmas.{read_then}
+use Rattle.rr_snapshot.proofs.PrefixLemmas.{read_then}
 use Rattle.rr_snapshot.proofs.StreamLemmas.{stream_ok, stream_err, stream_some, stream_took, of_memory, took_at_most}
 use Rattle.rr_snapshot.proofs.stream.cell_from.Goals as goal
 
@@ -62,21 +62,21 @@ returns-in_err-cell-clause-read g c =
 
 pub returns-in_err-got-clause-stream : goal.returns-in_err-got-clause-stream
 returns-in_err-got-clause-stream g c = record {
-  front = read_then _ _ _ c.fill_up_to.ensures.stream.front c.fill_up_to-2.ensures.stream.front;
+  prefix = read_then _ _ _ c.fill_up_to.ensures.stream.prefix c.fill_up_to-2.ensures.stream.prefix;
   failures_never_fall = search rules;
   failed = search rules;
 }
 
 pub returns-in_err-cell-clause-stream : goal.returns-in_err-cell-clause-stream
 returns-in_err-cell-clause-stream g c = record {
-  front = read_then _ _ _ c.fill_up_to.ensures.stream.front c.fill_up_to-2.ensures.stream.front;
+  prefix = read_then _ _ _ c.fill_up_to.ensures.stream.prefix c.fill_up_to-2.ensures.stream.prefix;
   failures_never_fall = search rules;
   failed = search rules;
 }
 
 pub returns-clause-stream : goal.returns-clause-stream
 returns-clause-stream g c = record {
-  front = read_then _ _ _ c.fill_up_to.ensures.stream.front c.fill_up_to-2.ensures.stream.front;
+  prefix = read_then _ _ _ c.fill_up_to.ensures.stream.prefix c.fill_up_to-2.ensures.stream.prefix;
   failures_never_fall = search rules;
   failed = search rules;
 }

@@ -21,7 +21,7 @@ returns-in_err-request g c = λ m is.
 
 pub returns : goal.returns
 returns g c = λ m is.
-    let said = rw c.schema.ensures.value at c.in_ok-request.ensures.value in
+    let parsed = rw c.schema.ensures.value at c.in_ok-request.ensures.value in
     fetch_answered c.args.cluster.now m is c.args.node.now (parts c.args.request.now) c.in-Some.replica.now
     c.in-Some.ensures.value
-    (request_view c.in_ok-request.request) said c.in_ok-answer_text.field-0.items c.in_ok-answer_text.ensures
+    (request_view c.in_ok-request.request) parsed c.in_ok-answer_text.field-0.items c.in_ok-answer_text.ensures

@@ -6,7 +6,7 @@ use Rattle.rr_cells.specs.Operations.{accepts, step}
 use Rattle.rr_replica.specs.ReplicaWithRoom.{ReplicaWithRoom, replica_state}
 use Rattle.rr_desk.specs.declared.rule.View.{View}
 use Rattle.rr_desk.specs.Changes.{AreNamed, IsOwn, names_of, ops_in}
-use Rattle.rr_desk.specs.Editions.{BookFront}
+use Rattle.rr_desk.specs.Editions.{BookPrefix}
 use Rattle.rr_desk.specs.KeeperState.{KeeperState, IsKeeper}
 use Rattle.rr_desk.specs.Writers.{changes}
 use Rattle.rr_desk.proofs.KeeperStateLemmas.{keeper-named, keeper-push, own-state, push-state, tied-origin}
@@ -38,12 +38,12 @@ invariant_of-self-2 g c =
     let named = named-pushed names c.ready_series.new.self.keys (changes w) c.name_keys.new.named
     c.in_ok-name_keys.ensures.named c.in_ok-series.series op c.in_ok-change.change (changes n) c.in_ok-change.ensures
     longer in
-    subst (λ (z : View × ReplicaWithRoom × BookFront). IsKeeper z.0 (replica_state z.1) (names_of z.1)
+    subst (λ (z : View × ReplicaWithRoom × BookPrefix). IsKeeper z.0 (replica_state z.1) (names_of z.1)
     (replica_state c.apply_numbered.new.self) z.2 k.book (changes n) false
     × AreNamed (names_of z.1) c.apply_numbered.new.self.keys (changes n) c.name_keys.new.named)
-    (λ i. (view (desk i).place, (desk i).shown.value.replica, (desk i).shown.value.front)) (
+    (λ i. (view (desk i).place, (desk i).shown.value.replica, (desk i).shown.value.prefix)) (
       keeper-push (view o.desk.place) (replica_state o.desk.shown.value.replica) names (replica_state k.own)
-          (replica_state c.apply_numbered.new.self) o.desk.shown.value.front k.book (changes o) (changes n) k.ended op
+          (replica_state c.apply_numbered.new.self) o.desk.shown.value.prefix k.book (changes o) (changes n) k.ended op
           c.self.invariant.0 may is left,
       subst (λ keys. AreNamed names keys (changes n) c.name_keys.new.named) (sym c.apply_numbered.ensures.keys) named,
     )
@@ -97,15 +97,15 @@ invariant_of-self-then-is_err g c =
     let desk = sym (c.append.ensures.desk ∙ c.name_keys.ensures.keys.desk) in
     let same : changes n ≡ changes w = search rules in
     let kept = subst (λ (own : ReplicaState). IsKeeper (view o.desk.place)
-    (replica_state o.desk.shown.value.replica) names own o.desk.shown.value.front k.book (changes w) k.ended)
+    (replica_state o.desk.shown.value.replica) names own o.desk.shown.value.prefix k.book (changes w) k.ended)
     (sym c.ready_series.ensures.ready.unchanged)
     (keeper-named (view o.desk.place) (replica_state o.desk.shown.value.replica) names (replica_state k.own)
-    o.desk.shown.value.front k.book (changes o) (changes w) k.ended c.self.invariant.0
-    c.name_keys.ensures.keys.pending (c.name_keys.ensures.keys.front o.desk.shown.value.front)) in
-    rw same (subst (λ (z : View × ReplicaWithRoom × BookFront). IsKeeper z.0 (replica_state z.1) (names_of z.1)
+    o.desk.shown.value.prefix k.book (changes o) (changes w) k.ended c.self.invariant.0
+    c.name_keys.ensures.keys.pending (c.name_keys.ensures.keys.prefix o.desk.shown.value.prefix)) in
+    rw same (subst (λ (z : View × ReplicaWithRoom × BookPrefix). IsKeeper z.0 (replica_state z.1) (names_of z.1)
     (replica_state c.ready_series.new.self) z.2 k.book (changes w) k.ended
     × AreNamed (names_of z.1) c.ready_series.new.self.keys (changes w) c.name_keys.new.named)
-    (λ i. (view (desk i).place, (desk i).shown.value.replica, (desk i).shown.value.front))
+    (λ i. (view (desk i).place, (desk i).shown.value.replica, (desk i).shown.value.prefix))
     (kept, c.name_keys.ensures.named))
 
 -- room was made, so it is applied

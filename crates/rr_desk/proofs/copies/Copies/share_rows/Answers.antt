@@ -13,7 +13,7 @@ invariant_of-self g c =
     let w = k.writer in
     let names = names_of w.desk.shown.value.replica in (
       subst (λ (own : ReplicaState). IsKeeper (view w.desk.place) (replica_state w.desk.shown.value.replica) names own
-          w.desk.shown.value.front k.book (changes w) k.ended) (sym c.share_rows.ensures.unchanged) c.self.invariant.0,
+          w.desk.shown.value.prefix k.book (changes w) k.ended) (sym c.share_rows.ensures.unchanged) c.self.invariant.0,
       subst (λ keys. AreNamed names keys (changes w) k.named) (sym c.share_rows.ensures.keys) c.self.invariant.1,
     )
 

@@ -19,10 +19,10 @@ returns-clause-saves g c = record {
       (Appends (g.W.Write.contents (inner_of c.args.output.now)) (g.W.Write.contents (inner_of c.save.new.output))
       (snapshot_text latest h.schema h.origin (entries h.cells))))
       (c.replica.ensures.state ∙ ap own_replica c.self.view_is) c.save.ensures.saves.whole;
-  front =
+  prefix =
       subst (λ (h : ReplicaState). AppendsPrefix (g.W.Write.contents (inner_of c.args.output.now))
       (g.W.Write.contents (inner_of c.save.new.output)) (snapshot_text latest h.schema h.origin (entries h.cells)))
-      (c.replica.ensures.state ∙ ap own_replica c.self.view_is) c.save.ensures.saves.front;
+      (c.replica.ensures.state ∙ ap own_replica c.self.view_is) c.save.ensures.saves.prefix;
   failures_never_fall = search rules;
   failed = search rules;
 }

@@ -4,12 +4,12 @@ use Rattle.rr_desk.proofs.reader.Reader.difference.Goals as goal
 
 pub returns : goal.returns
 returns g c =
-    let same : (view c.in-Some.seat.handle.place).schema ≡ c.self.inside.schema = search rules in
+    let same : (view c.in-Some.handle.inner.place).schema ≡ c.self.inside.schema = search rules in
     record {
       seen = search rules;
       answer = record {
         newer = search rules;
         ascending = search rules;
-        of_schema = rw (← same) c.lacking-seat.ensures.answer.of_schema;
+        of_schema = rw (← same) c.lacking-handle.ensures.answer.of_schema;
       };
     }

@@ -9,8 +9,8 @@ returns c =
     let kept : to_z w64 (of_z w64 value) ≡ value = search rules in
     let text = c.text-key_text.ensures.value in
     rw kept (record {
-      begins = first_read c.args.line.now c.args.key.now value c.in_ok-front.front.now c.in_ok-front.field.now
-          c.in_ok-value.rest.now (rw text at c.text-key_text.ensures.grammar) (rw text at c.in_ok-front.ensures)
+      begins = first_read c.args.line.now c.args.key.now value c.in_ok-prefix.prefix.now c.in_ok-prefix.field.now
+          c.in_ok-value.rest.now (rw text at c.text-key_text.ensures.grammar) (rw text at c.in_ok-prefix.ensures)
           (rw text at c.in_ok-value.ensures);
       count = refl;
     })

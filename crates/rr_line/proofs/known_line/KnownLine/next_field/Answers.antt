@@ -9,8 +9,8 @@ pub returns : goal.returns
 returns c = λ line samples read.
     let known = c.args.self.now in
     let key = c.args.key.now in
-    let front = c.in_ok-front.front.now in
-    let field = c.in_ok-front.field.now in
+    let prefix = c.in_ok-prefix.prefix.now in
+    let field = c.in_ok-prefix.field.now in
     let value = c.in_ok-value.value in
     let value_text = c.in_ok-value_text.value_text.now in
     let may = c.if-not-may_precede.ensures in
@@ -18,9 +18,9 @@ returns c = λ line samples read.
     strip_some COMMA known.rest.now c.in_ok-text.text.now (search rules) in
     let whole = comma ∙ ap (λ (t : List ℕ). COMMA ∷ t) c.in_ok-value_text.ensures in
     let text = c.text.ensures.value in
-    let begins = next_read line samples known.front.now known.field.now known.rest.now key value front field
+    let begins = next_read line samples known.prefix.now known.field.now known.rest.now key value prefix field
     value_text c.in_ok-value.rest.now
-    (rw text at c.text.ensures.grammar) (rw text at c.in_ok-front.ensures) read.begins may.same
+    (rw text at c.text.ensures.grammar) (rw text at c.in_ok-prefix.ensures) read.begins may.same
     (omega (arith, read.count, may.fields_fit)) may.above whole
     c.in_ok-value.ensures in
     let kept : to_z w64 (of_z w64 value) ≡ value = search rules in

@@ -4,5 +4,5 @@ use Rattle.rr_line.proofs.known_line.KnownLine.time.Goals as goal
 
 pub returns : goal.returns
 returns c = λ line samples read.
-    says_at_end c.args.precision line samples c.args.self.now.front.now c.args.self.now.field.now
+    says_at_end c.args.precision line samples c.args.self.now.prefix.now c.args.self.now.field.now
     c.args.self.now.rest.now c.time_after.result read.begins c.time_after.ensures.ended c.time_after.ensures.time

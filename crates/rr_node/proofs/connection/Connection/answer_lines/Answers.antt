@@ -12,8 +12,9 @@ returns-in_err-write_lines g c =
       stopped = rw given.1 (
         ended.0,
         rw c.renew.ensures.given at ended.1,
-        λ start pushed said text first has appends. stops_serving c.args.self.now start c.args.keeper.now _ pushed text
-            said ended.0 first _ ended.2 has appends,
+        λ start pushed parsed text first has appends. stops_serving c.args.self.now start c.args.keeper.now _ pushed
+            text
+            parsed ended.0 first _ ended.2 has appends,
       );
       renewed = search rules;
       flushed = search rules;
@@ -25,14 +26,14 @@ returns-in_err-send g c =
     let given = err_from_is_err_and c.from_residual-in_err-send.result c.from_residual-in_err-send.ensures.1 in
     let served = c.in_ok-write_lines.ensures.served in
     let none : c.new-answers.result.items ≡ [] = search rules in
-    let part = rw (c.as_slice.ensures.value, served.3, none) at c.in_err-send.ensures.writes.front in
+    let part = rw (c.as_slice.ensures.value, served.3, none) at c.in_err-send.ensures.writes.prefix in
     record {
       served = search rules;
       stopped = rw given.1 (
         served.0,
         rw c.renew.ensures.given at served.2,
-        λ start pushed said text first has appends. stops_answering c.args.self.now _ start c.args.keeper.now _ pushed
-            text served.1 said served.0 first _ _ served.4.items has appends part,
+        λ start pushed parsed text first has appends. stops_answering c.args.self.now _ start c.args.keeper.now _ pushed
+            text served.1 parsed served.0 first _ _ served.4.items has appends part,
       );
       renewed = search rules;
       flushed = search rules;

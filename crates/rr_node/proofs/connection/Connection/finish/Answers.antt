@@ -20,12 +20,12 @@ returns-in_err-answer_lines g c = record {
       rw given.1 (
         stopped.0,
         stopped.1,
-        λ start pushed said text first has appends.
-            let last = HasServed-end c.args.self.now _ start c.args.keeper.now pushed text said c.end.ensures
+        λ start pushed parsed text first has appends.
+            let last = HasServed-end c.args.self.now _ start c.args.keeper.now pushed text parsed c.end.ensures
             (record { lines = refl; report = refl; rules = refl }) has in
             stops_of _ c.args.self.now.rules start _ (ComesAfter c.end.new.self pushed) (λ bytes. bytes ≡ pushed)
-            (said ++ stopped.0) first _ refl (comes_at_end c.end.new.self pushed)
-            (stopped.2 start pushed said text first last appends),
+            (parsed ++ stopped.0) first _ refl (comes_at_end c.end.new.self pushed)
+            (stopped.2 start pushed parsed text first last appends),
       );
   renewed = search rules;
   flushed = search rules;
@@ -42,16 +42,18 @@ returns-in_err-publish g c = record {
       rw given.1 (
         served.0,
         served.2,
-        λ start pushed said text first has appends.
-            let last = HasServed-end c.args.self.now _ start c.args.keeper.now pushed text said c.end.ensures
+        λ start pushed parsed text first has appends.
+            let last = HasServed-end c.args.self.now _ start c.args.keeper.now pushed text parsed c.end.ensures
             (record { lines = refl; report = refl; rules = refl }) has in
-            let stops = stops_answering _ c.answer_lines.new.self start c.args.keeper.now c.answer_lines.new.keeper pushed
-            text served.1 said served.0 first _ since served.4.items last appends
+            let stops = stops_answering _ c.answer_lines.new.self start c.args.keeper.now c.answer_lines.new.keeper
+                pushed
+            text served.1 parsed served.0 first _ since served.4.items last appends
             (served.1, [], sym (append-nil served.1), served.3) in
-            subst (λ (k : KeeperState). Stops c.args.self.now.rules start k (λ bytes. bytes ≡ pushed) (said ++ served.0)
+            subst (λ (k : KeeperState). Stops c.args.self.now.rules start k (λ bytes. bytes ≡ pushed)
+                (parsed ++ served.0)
             first since) (sym c.in_err-publish.ensures.state.unchanged)
             (stops_of _ c.args.self.now.rules start c.answer_lines.new.keeper (ComesAfter c.end.new.self pushed)
-            (λ bytes. bytes ≡ pushed) (said ++ served.0) first since refl (comes_at_end c.end.new.self pushed) stops),
+            (λ bytes. bytes ≡ pushed) (parsed ++ served.0) first since refl (comes_at_end c.end.new.self pushed) stops),
       );
   renewed = search rules;
   flushed = search rules;
@@ -70,21 +72,21 @@ returns-in_err-send_report g c = record {
       rw given.1 (
         served.0,
         served.2,
-        λ start pushed said text first has appends.
-            let last = HasServed-end c.args.self.now _ start c.args.keeper.now pushed text said c.end.ensures
+        λ start pushed parsed text first has appends.
+            let last = HasServed-end c.args.self.now _ start c.args.keeper.now pushed text parsed c.end.ensures
             (record { lines = refl; report = refl; rules = refl }) has in
-            let done : IsDone new start c.answer_lines.new.keeper pushed (said ++ served.0) (text ++ served.1) =
+            let done : IsDone new start c.answer_lines.new.keeper pushed (parsed ++ served.0) (text ++ served.1) =
             record {
-              has = served.4.items.served start pushed said text last;
+              has = served.4.items.served start pushed parsed text last;
               nothing =
                   served.4.all_taken;
               ended = ended;
             } in
             stops_of new.rules c.args.self.now.rules start c.publish.new.self (λ bytes. bytes ≡ pushed)
-            (λ bytes. bytes ≡ pushed) (said ++ served.0) first _ served.4.items.rules (λ bytes e. e)
+            (λ bytes. bytes ≡ pushed) (parsed ++ served.0) first _ served.4.items.rules (λ bytes e. e)
             (stops_reporting new start c.answer_lines.new.keeper c.publish.new.self pushed (text ++ served.1)
-            (said ++ served.0) first _ _ done c.in_ok-publish.ensures.state.made
-            (Appends-trans _ _ _ text served.1 appends served.3) c.in_err-send_report.ensures.sends.front),
+            (parsed ++ served.0) first _ _ done c.in_ok-publish.ensures.state.made
+            (Appends-trans _ _ _ text served.1 appends served.3) c.in_err-send_report.ensures.sends.prefix),
       );
   renewed = search rules;
   flushed = search rules;
@@ -99,19 +101,20 @@ returns g c = record {
       let ended = served.4.items.ended ∙ ap (λ (s : FeedState). s.ended) c.end.ensures in (
         served.0,
         served.2,
-        λ start pushed said text first has appends.
-            let last = HasServed-end c.args.self.now _ start c.args.keeper.now pushed text said c.end.ensures
+        λ start pushed parsed text first has appends.
+            let last = HasServed-end c.args.self.now _ start c.args.keeper.now pushed text parsed c.end.ensures
             (record { lines = refl; report = refl; rules = refl }) has in
-            let done : IsDone new start c.answer_lines.new.keeper pushed (said ++ served.0) (text ++ served.1) =
+            let done : IsDone new start c.answer_lines.new.keeper pushed (parsed ++ served.0) (text ++ served.1) =
             record {
-              has = served.4.items.served start pushed said text last;
+              has = served.4.items.served start pushed parsed text last;
               nothing =
                   served.4.all_taken;
               ended = ended;
             } in
-            subst (λ (r : Rules). IsWhole r start c.publish.new.self new.report pushed (said ++ served.0) first
+            subst (λ (r : Rules). IsWhole r start c.publish.new.self new.report pushed (parsed ++ served.0) first
             (g.W.Write.contents (inner_of c.send_report.new.output))) served.4.items.rules
-            (whole_of new start c.answer_lines.new.keeper c.publish.new.self pushed (text ++ served.1) (said ++ served.0)
+            (whole_of new start c.answer_lines.new.keeper c.publish.new.self pushed (text ++ served.1)
+                (parsed ++ served.0)
             new.report first _ _ done c.in_ok-publish.ensures.state.made refl
             (Appends-trans _ _ _ text served.1 appends served.3) c.in_ok-send_report.ensures.sends.whole),
       );

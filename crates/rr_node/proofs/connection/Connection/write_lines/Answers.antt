@@ -92,13 +92,15 @@ loop-item-preserved g c =
         so_far.0 ++ takes.asked,
         so_far.1 ++ text,
         HasGiven-trans _ _ _ so_far.0 takes.asked so_far.2 takes.gave,
-        counted.answered ∙ ap (λ (t : List ℕ). t ++ text) so_far.3 ∙ append_assoc c.args.answers.now.items so_far.1 text,
-        ServedItems-item c.args.self.now old c.count.new.self c.args.keeper.now c.loop-item.keeper _ so_far.0 takes.asked
+        counted.answered ∙ ap (λ (t : List ℕ). t ++ text) so_far.3
+            ∙ append_assoc c.args.answers.now.items so_far.1 text,
+        ServedItems-item c.args.self.now old c.count.new.self c.args.keeper.now c.loop-item.keeper _ so_far.0
+            takes.asked
             so_far.1 item answer (record {
               hands = rw counted.feed hands;
               few = whole.0;
               keeper = rw (lines, whole.1) at c.in_ok-publish_in_turn.ensures.published;
-              told = whole.2;
+              reported = whole.2;
               lines = lines;
               report = counted.report;
               rules = counted.rules;

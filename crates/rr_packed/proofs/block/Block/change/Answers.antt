@@ -20,13 +20,13 @@ use Rattle.rr_packed.proofs.block.Block.change.Goals as goal
 
 empty : (b : Block) (k : ℕ) → IsUnheld b k → items_in b k ≡ []
 empty b k free = items_none b k (item_none b.rows.mask b.rows.items.items k free.rows)
-    (item_none b.readings.mask b.readings.items.items k free.readings)
+    (item_none b.samples.mask b.samples.items.items k free.samples)
 
 spare : (b : Block) (k origin : ℕ) → IsUnheld b k → IsTrue (has_room_in b k origin)
-    → IsTrue (has_spare b.readings && has_spare b.rows)
+    → IsTrue (has_spare b.samples && has_spare b.rows)
 spare b k origin free room =
     let is = room_is_free b k origin (item_none b.rows.mask b.rows.items.items k free.rows) room in
-    and_from (has_spare b.readings) (has_spare b.rows) is.readings is.rows
+    and_from (has_spare b.samples) (has_spare b.rows) is.samples is.rows
 
 pub returns-then-is_free : goal.returns-then-is_free
 returns-then-is_free c = record {

@@ -23,5 +23,5 @@ returns c =
     let all : c.deref-entries-items.result.now ≡ old.rows.items.items = search rules in
     let rows = c.loop-entries.invariant ∙ ap (map items_of)
     (take_all c.loop-entries.entries-index c.deref-entries-items.result.now c.loop-entries-test.false ∙ all) in
-    let readings : c.in_ok-readings.readings.items ≡ old.readings.items.items = search rules in
-    block_copied old _ refl refl readings refl rows
+    let samples : c.in_ok-samples.samples.items ≡ old.samples.items.items = search rules in
+    block_copied old _ refl refl samples refl rows

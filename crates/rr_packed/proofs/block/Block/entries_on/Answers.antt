@@ -61,7 +61,7 @@ returns c =
     let held = c.items_on-entries-items.result.now in
     let lists = slice_range b.rows.items.items (rank b.rows.mask n) (rank b.rows.mask (n + m)) in
     let rows : b.rows.mask < 2 ^ 64 = search rules in
-    let readings : b.readings.mask < 2 ^ 64 = search rules in
+    let samples : b.samples.mask < 2 ^ 64 = search rules in
     let is : sum_by len (take c.loop-entries.entries-index held) ≡ sum_by len lists =
     ap (sum_by len) (take_all c.loop-entries.entries-index held c.loop-entries-test.false
     ∙ c.items_on-entries-items.ensures) in
@@ -71,14 +71,14 @@ returns c =
     as (λ _. entries_in_all (λ i. items_in b (n + i)) m ≡ c.match-self.count + sum_by len lists) [
       | in-Some w ↦
           let ones = w.ones_on-count.result in
-          let all = in_block b rows readings n m ones c.args.rows.within w.ones_on-count.ensures in
+          let all = in_block b rows samples n m ones c.args.rows.within w.ones_on-count.ensures in
           let read = ap (λ s. count_read s ones) w.in-Some.is in
           let count = w.count-is in
           omega arith
       | in-None w ↦
           let rise = rank_le (read_alone b) n (n + m) (omega arith) in
           let ones = rank (read_alone b) (n + m) - rank (read_alone b) n in
-          let all = in_block b rows readings n m ones c.args.rows.within (omega arith) in
+          let all = in_block b rows samples n m ones c.args.rows.within (omega arith) in
           let read = ap (λ s. count_read s ones) w.in-None.is in
           let count = w.count-is in
           omega arith

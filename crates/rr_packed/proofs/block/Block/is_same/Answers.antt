@@ -3,13 +3,13 @@ use Rattle.rr_archive.specs.Entries.{items_of}
 use Rattle.rr_packed.proofs.BlockLemmas.{block_copied}
 use Rattle.rr_packed.proofs.block.Block.is_same.Goals as goal
 
-pub returns-then-are_same_readings : goal.returns-then-are_same_readings
-returns-then-are_same_readings c = λ t.
+pub returns-then-are_same_samples : goal.returns-then-are_same_samples
+returns-then-are_same_samples c = λ t.
     let own = c.args.self.now in
     let other = c.args.other.now in
     let source : own.source ≡ other.source = search rules in
-    let mask : own.readings.mask ≡ other.readings.mask = search rules in
+    let mask : own.samples.mask ≡ other.samples.mask = search rules in
     let rows_mask : own.rows.mask ≡ other.rows.mask = search rules in
-    let readings : own.readings.items.items ≡ other.readings.items.items = search rules in
+    let samples : own.samples.items.items ≡ other.samples.items.items = search rules in
     let rows : map items_of own.rows.items.items ≡ map items_of other.rows.items.items = search rules in
-    block_copied other own source mask readings rows_mask rows
+    block_copied other own source mask samples rows_mask rows

@@ -12,7 +12,7 @@ pub returns-in_err-make_room : goal.returns-in_err-make_room
 returns-in_err-make_room c = λ origin. record {
   same =
       let b = c.args.self.now in
-      let new : Block = record { alloc = b.alloc; source = b.source; readings = c.make_room.new.self; rows = b.rows } in
+      let new : Block = record { alloc = b.alloc; source = b.source; samples = c.make_room.new.self; rows = b.rows } in
       block_same b new (λ n. refl) refl (λ n. ap (λ f. f n) c.make_room.ensures.made.same);
   room = search rules;
   room_suffices =
@@ -21,7 +21,7 @@ returns-in_err-make_room c = λ origin. record {
       let k = c.args.number.value in
       let none : item_in b.rows k ≡ None = item_none b.rows.mask b.rows.items.items k c.requires.rows in
       let free = room_is_free b k origin none room in
-      let ok : IsOk c.make_room.result = c.make_room.ensures.made.room_suffices free.readings in
+      let ok : IsOk c.make_room.result = c.make_room.ensures.made.room_suffices free.samples in
       absurd (true≢false (sym (subst IsOk c.in_err-make_room.was ok)));
 }
 
@@ -32,7 +32,7 @@ returns c = λ origin. record {
       let new : Block = record {
         alloc = b.alloc;
         source = b.source;
-        readings = c.make_room.new.self;
+        samples = c.make_room.new.self;
         rows = c.make_room-2.new.self;
       } in
       block_same b new (λ n. ap (λ f. f n) c.make_room-2.ensures.made.same) refl
@@ -43,17 +43,17 @@ returns c = λ origin. record {
       let new : Block = record {
         alloc = b.alloc;
         source = b.source;
-        readings = c.make_room.new.self;
+        samples = c.make_room.new.self;
         rows = c.make_room-2.new.self;
       } in
       let none : item_in b.rows k ≡ None = item_none b.rows.mask b.rows.items.items k c.requires.rows in
-      let readings : IsTrue (has_spare c.make_room.new.self) = search rules in
+      let samples : IsTrue (has_spare c.make_room.new.self) = search rules in
       on_ok_weaker c.make_room-2.result
       (λ rows. free_has_room new k origin (ap (λ f. f k) c.make_room-2.ensures.made.same ∙ none)
       (record {
         unread = ap (λ m. place_at m k) c.make_room.ensures.mask
-            ∙ c.requires.readings;
-        readings = readings;
+            ∙ c.requires.samples;
+        samples = samples;
         rows = rows;
       }))
       c.make_room-2.ensures.made.room;

@@ -12,13 +12,13 @@ use Rattle.rr_packed.proofs.BlockLemmas.{items_none}
 use Rattle.rr_packed.proofs.block.Block.rows_on.Goals as goal
 
 -- a row whose bit neither mask has
-unset : (b : Block) (n : ℕ) → bit_at (bit_or b.readings.mask b.rows.mask) n ≡ 0 → items_in b n ≡ []
+unset : (b : Block) (n : ℕ) → bit_at (bit_or b.samples.mask b.rows.mask) n ≡ 0 → items_in b n ≡ []
 unset b n e =
-    let either = bit_at_or b.readings.mask b.rows.mask n in
-    let readings : bit_at b.readings.mask n ≡ 0 = omega arith in
+    let either = bit_at_or b.samples.mask b.rows.mask n in
+    let samples : bit_at b.samples.mask n ≡ 0 = omega arith in
     let rows : bit_at b.rows.mask n ≡ 0 = omega arith in
     items_none b n (item_none b.rows.mask b.rows.items.items n (place_none b.rows.mask n rows))
-    (item_none b.readings.mask b.readings.items.items n (place_none b.readings.mask n readings))
+    (item_none b.samples.mask b.samples.items.items n (place_none b.samples.mask n samples))
 
 -- a bit of what is left of a mask
 left : (mask n i : ℕ) → 1 ≤ i → bit_at mask (n + i) ≡ bit_at (mask / 2 ^ n / 2 ^ 1) (i - 1)
@@ -31,7 +31,7 @@ returns-then-rest-eq0 c = record {
   empty =
       λ i some h.
       let b = c.args.self.now in
-      let mask = bit_or b.readings.mask b.rows.mask in
+      let mask = bit_or b.samples.mask b.rows.mask in
       let none : mask / 2 ^ c.args.number.value / 2 ^ 1 ≡ 0 = search rules in
       unset b (c.args.number.value + i) (left mask c.args.number.value i some ∙ ap (λ m. bit_at m (i - 1)) none
       ∙ bit_at-zero (i - 1));
@@ -39,18 +39,18 @@ returns-then-rest-eq0 c = record {
 
 -- what is left of both masks, and its lowest bit
 record IsRest (b : Block) (n t : ℕ) : Type 0 where
-  has : bit_at (bit_or b.readings.mask b.rows.mask) (n + 1 + t) ≡ 1
+  has : bit_at (bit_or b.samples.mask b.rows.mask) (n + 1 + t) ≡ 1
   within : n + 1 + t < 64
-  none : (i : ℕ) → 1 ≤ i → i < 1 + t → bit_at (bit_or b.readings.mask b.rows.mask) (n + i) ≡ 0
+  none : (i : ℕ) → 1 ≤ i → i < 1 + t → bit_at (bit_or b.samples.mask b.rows.mask) (n + i) ≡ 0
 
-rest_is : (b : Block) (n : ℕ) → b.readings.mask < 2 ^ 64 → b.rows.mask < 2 ^ 64
-    → (bit_or b.readings.mask b.rows.mask / 2 ^ n / 2 ^ 1 ≡ 0 → ⊥)
-    → IsRest b n (trailing_zeros w64 (bit_or b.readings.mask b.rows.mask / 2 ^ n / 2 ^ 1))
+rest_is : (b : Block) (n : ℕ) → b.samples.mask < 2 ^ 64 → b.rows.mask < 2 ^ 64
+    → (bit_or b.samples.mask b.rows.mask / 2 ^ n / 2 ^ 1 ≡ 0 → ⊥)
+    → IsRest b n (trailing_zeros w64 (bit_or b.samples.mask b.rows.mask / 2 ^ n / 2 ^ 1))
 rest_is b n r s some =
-    let mask = bit_or b.readings.mask b.rows.mask in
+    let mask = bit_or b.samples.mask b.rows.mask in
     let rest = mask / 2 ^ n / 2 ^ 1 in
     let t = trailing_zeros w64 rest in
-    let whole : mask < 2 ^ 64 = or_lt 64 b.readings.mask b.rows.mask r s in
+    let whole : mask < 2 ^ 64 = or_lt 64 b.samples.mask b.rows.mask r s in
     let half : mask / 2 ^ n ≤ mask = shr_le mask n in
     let less : rest ≤ mask / 2 ^ n = shr_le (mask / 2 ^ n) 1 in
     let fits : rest < 2 ^ 64 = omega arith in
@@ -71,15 +71,15 @@ returns c = record {
   at_least_one = search rules;
   at_most =
       let b = c.args.self.now in
-      let readings : b.readings.mask < 2 ^ 64 = search rules in
+      let samples : b.samples.mask < 2 ^ 64 = search rules in
       let rows : b.rows.mask < 2 ^ 64 = search rules in
-      let within = (rest_is b c.args.number.value readings rows c.if-rest-eq0.false).within in
+      let within = (rest_is b c.args.number.value samples rows c.if-rest-eq0.false).within in
       omega arith;
   empty =
       λ i some h.
       let b = c.args.self.now in
-      let readings : b.readings.mask < 2 ^ 64 = search rules in
+      let samples : b.samples.mask < 2 ^ 64 = search rules in
       let rows : b.rows.mask < 2 ^ 64 = search rules in
-      let rest = rest_is b c.args.number.value readings rows c.if-rest-eq0.false in
+      let rest = rest_is b c.args.number.value samples rows c.if-rest-eq0.false in
       unset b (c.args.number.value + i) (rest.none i some h);
 }

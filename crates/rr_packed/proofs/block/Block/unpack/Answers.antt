@@ -4,40 +4,40 @@ use Rattle.rr_archive.specs.declared.entries.Entries.{Entries}
 use Rattle.rr_archive.specs.declared.entries.Entries.TheVariants.{One}
 use Rattle.rr_packed.specs.declared.block.Block.{Block}
 use Rattle.rr_packed.specs.declared.sparse.Sparse.{Sparse}
-use Rattle.rr_packed.specs.declared.reading.Reading.{Reading}
+use Rattle.rr_packed.specs.declared.lone_sample.LoneSample.{LoneSample}
 use Rattle.rr_packed.specs.Sparse.{item_in, place_at, IsItemSet}
 use Rattle.rr_packed.specs.Blocks.{items_in, has_room_in}
-use Rattle.rr_packed.specs.Readings.{entries_read}
+use Rattle.rr_packed.specs.LoneSamples.{entries_read}
 use Rattle.rr_packed.proofs.SparseLemmas.{item_none, none_from}
-use Rattle.rr_packed.proofs.BlockLemmas.{block_same, reading_removed, room_kept, entries_set, row_set_same, items_by_reading, room_is_free, none_read}
+use Rattle.rr_packed.proofs.BlockLemmas.{block_same, sample_removed, room_kept, entries_set, row_set_same, items_by_sample, room_is_free, none_read}
 use Rattle.rr_packed.proofs.block.Block.unpack.Goals as goal
 use Rattle.rr_packed.proofs.block.Block.unpack.Goals.{then-not-has_entries+in-Some+in_ok-insert, then-not-has_entries+in_default, else-not-has_entries, In_err-insert}
 
--- the row is held as its entries, beside the reading, if it was held as a reading
+-- the row is held as its entries, beside the sample, if it was held as a lone sample
 record IsHeld (old mid : Block) (k : ℕ) : Type 0 where
   same : items_in mid ≡ items_in old
-  readings : mid.readings ≡ old.readings
-  spare : (entries_read mid.source (item_in mid.readings k) ≡ []) ⊎ IsTrue (is_some (item_in mid.rows k))
+  samples : mid.samples ≡ old.samples
+  spare : (entries_read mid.source (item_in mid.samples k) ≡ []) ⊎ IsTrue (is_some (item_in mid.rows k))
   rows_stay : (origin : ℕ) → IsTrue (has_room_in old k origin) → mid.rows ≡ old.rows
 
--- a row that has room has no reading, unless it is held as entries
+-- a row that has room has no sample, unless it is held as entries
 unread : (b : Block) (k origin : ℕ) (e : Entry) → item_in b.rows k ≡ None
-    → entries_read b.source (item_in b.readings k) ≡ e ∷ [] → IsTrue (has_room_in b k origin) → ⊥
+    → entries_read b.source (item_in b.samples k) ≡ e ∷ [] → IsTrue (has_room_in b k origin) → ⊥
 unread b k origin e none something room =
     let free = room_is_free b k origin none room in
-    let nothing = ap (entries_read b.source) (item_none b.readings.mask b.readings.items.items k free.unread)
+    let nothing = ap (entries_read b.source) (item_none b.samples.mask b.samples.items.items k free.unread)
     ∙ none_read b.source in
     absurd (cc (nothing, something))
 
--- with its reading as its entries
+-- with its sample as its entries
 held_so : (b : Block) (rows : Sparse Entries) (k : ℕ) (e : Entry) → item_in b.rows k ≡ None
-    → entries_read b.source (item_in b.readings k) ≡ e ∷ []
+    → entries_read b.source (item_in b.samples k) ≡ e ∷ []
     → IsItemSet k (Some (One e)) (item_in b.rows) (item_in rows)
-    → IsHeld b (record { alloc = b.alloc; source = b.source; readings = b.readings; rows = rows }) k
+    → IsHeld b (record { alloc = b.alloc; source = b.source; samples = b.samples; rows = rows }) k
 held_so b rows k e none read added = record {
   same = row_set_same k (e ∷ []) _ _ (entries_set b _ k (One e) added refl (λ n. refl))
-      (sym (items_by_reading b k none ∙ read));
-  readings = refl;
+      (sym (items_by_sample b k none ∙ read));
+  samples = refl;
   spare = inr (search rules);
   rows_stay = λ origin room. absurd (unread b k origin e none read room);
 }
@@ -54,13 +54,13 @@ held c = elim c.if-not-has_entries.branch [
   | then-not-has_entries+in_default w ↦ subst (λ m. IsHeld c.args.self.now m c.args.number.value) (sym w.self-is)
       (record {
         same = refl;
-        readings = refl;
+        samples = refl;
         spare = inl (w.in_default.ensures.none refl);
         rows_stay = λ origin room. refl;
       })
   | else-not-has_entries w ↦ subst (λ m. IsHeld c.args.self.now m c.args.number.value) (sym w.self-is) (record {
     same = refl;
-    readings = refl;
+    samples = refl;
     spare = inr (search rules);
     rows_stay = λ origin room. refl;
   })
@@ -70,16 +70,16 @@ pub returns : goal.returns
 returns c =
     let mid = c.if-not-has_entries.self in
     let k = c.args.number.value in
-    let new : Block = record { alloc = mid.alloc; source = mid.source; readings = c.remove.new.self; rows = mid.rows }
+    let new : Block = record { alloc = mid.alloc; source = mid.source; samples = c.remove.new.self; rows = mid.rows }
     in
     let h = held c in
     record {
-      same = reading_removed mid new k (λ n. refl) refl c.remove.ensures.removed h.spare ∙ h.same;
+      same = sample_removed mid new k (λ n. refl) refl c.remove.ensures.removed h.spare ∙ h.same;
       unpacked = search rules;
       room = search rules;
       room_stays = λ origin room. room_kept c.args.self.now new k origin (h.rows_stay origin room)
-          (λ unread. c.remove.ensures.absent (ap (λ (r : Sparse Reading). place_at r.mask k) h.readings ∙ unread)
-          ∙ h.readings) room;
+          (λ unread. c.remove.ensures.absent (ap (λ (r : Sparse LoneSample). place_at r.mask k) h.samples ∙ unread)
+          ∙ h.samples) room;
     }
 
 -- ---- memory ran out

@@ -14,7 +14,8 @@ pub loop-number-preserved : goal.loop-number-preserved
 loop-number-preserved c =
     copied_more c.args.self.now.older.items (deque_iter_rest c.loop-number.number-iterator)
     (deque_iter_rest c.next.new.self) c.loop-number.older.items c.push_back.new.self.items c.in-Some.number
-    c.in-Some.block c.in_ok-copy.field-0 c.loop-number.invariant (search rules) (search rules) (search rules) (search rules)
+    c.in-Some.block c.in_ok-copy.field-0 c.loop-number.invariant (search rules) (search rules) (search rules)
+        (search rules)
 
 pub invariant_of-result : goal.invariant_of-result
 invariant_of-result c =
@@ -29,7 +30,8 @@ invariant_of-result c =
       ordered = subst (IsStrictlySortedBy int_cmp) (sym numbers) a.ordered;
       none_before =
           let same : to_z w64 (of_z w64 a.dropped) ≡ a.dropped = search rules in
-          ap (λ d. begins_before d (keys_of (c.loop-number.older.items ++ option_to_list c.in_ok-copy_newest.field-0))) same
+          ap (λ d. begins_before d (keys_of (c.loop-number.older.items ++ option_to_list c.in_ok-copy_newest.field-0)))
+              same
           ∙ ap (begins_before a.dropped) numbers ∙ a.none_before;
     }
 

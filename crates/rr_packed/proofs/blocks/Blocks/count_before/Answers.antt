@@ -4,7 +4,7 @@ use Rattle.std.specs.Option.{option_to_list}
 use Rattle.std.proofs.lemmas.List.Sorted.{IsPartitionPoint-from_clause}
 use Rattle.rr_packed.specs.declared.held_block.HeldBlock.{HeldBlock}
 use Rattle.rr_packed.specs.Blocks.{starts_before}
-use Rattle.rr_packed.proofs.NumberLemmas.{ascend_front, count_by_parts, count_older, count_past, parted}
+use Rattle.rr_packed.proofs.NumberLemmas.{ascend_prefix, count_by_parts, count_older, count_past, parted}
 use Rattle.rr_packed.proofs.blocks.Blocks.count_before.Goals as goal
 
 pub returns-then-ends_before : goal.returns-then-ends_before
@@ -22,6 +22,6 @@ returns-else-ends_before c =
     let after : starts_before n (option_to_list a.newest) ≡ false = search rules in
     count_by_parts n bs c.partition_point.result (search rules)
     (IsPartitionPoint-from_clause (λ (b : ℤ × HeldBlock). int_lt b.0 n) bs c.partition_point.result
-    c.partition_point.ensures.partitioned (parted n bs (ascend_front bs (option_to_list a.newest) a.ordered))
+    c.partition_point.ensures.partitioned (parted n bs (ascend_prefix bs (option_to_list a.newest) a.ordered))
     (λ a r f called. search rules))
     ∙ count_older n bs a.newest after

@@ -6,17 +6,17 @@ use Rattle.rr_key.specs.declared.class.Class.TheVariants.{Other}
 use Rattle.rr_key.proofs.MakingLemmas.{IsKeyText-made}
 use Rattle.rr_point.specs.Key.{names_of, key_text}
 use Rattle.rr_point.specs.Point.{point_view}
-use Rattle.rr_point.proofs.FrontLemmas.{key_after_front}
+use Rattle.rr_point.proofs.PrefixLemmas.{key_after_prefix}
 use Rattle.rr_point.proofs.point.Point.write_key.Goals as goal
 
 pub returns-in-Some-clause-written : goal.returns-in-Some-clause-written
 returns-in-Some-clause-written c =
     let p = point_view c.args.self.now in
     let field = c.args.field.now in
-    let front : c.in-Some.front.now ≡ _ = c.args.self.now.front_of c.in-Some.front (search rules) in
+    let prefix : c.in-Some.prefix.now ≡ _ = c.args.self.now.prefix_of c.in-Some.prefix (search rules) in
     let spelled : name_len Other field ≡ length field = search rules in
     subst (λ (t : List ℕ). OnOk c.write_parts.result (c.write_parts.new.text.items ≡ t))
-    (key_after_front p c.in-Some.front.now field front spelled) c.write_parts.ensures
+    (key_after_prefix p c.in-Some.prefix.now field prefix spelled) c.write_parts.ensures
 
 -- where a text is written, it is a key text
 grammar_of : {T E : Type 0} (result : Result T E) (text key : List ℕ) → IsKeyText key → OnOk result (text ≡ key)

@@ -11,10 +11,10 @@ pub returns-in_err-write_items : goal.returns-in_err-write_items
 returns-in_err-write_items g c = record {
   reported = search rules;
   refused = search rules;
-  front = λ pushed before start has appends.
+  prefix = λ pushed before start has appends.
       let last = HasReported-end c.args.self.now _ pushed before c.end.ensures
       (record { lines = refl; refused = refl; precision = refl; now = refl }) has in
-      rw append-nil at (c.in_err-write_items.ensures.front pushed before [] start last appends (λ e. (refl, refl)));
+      rw append-nil at (c.in_err-write_items.ensures.prefix pushed before [] start last appends (λ e. (refl, refl)));
   flushed = search rules;
   writes = search rules;
 }
@@ -23,10 +23,10 @@ pub returns-in_err-flush : goal.returns-in_err-flush
 returns-in_err-flush g c = record {
   reported = search rules;
   refused = search rules;
-  front = λ pushed before start has appends.
+  prefix = λ pushed before start has appends.
       let last = HasReported-end c.args.self.now _ pushed before c.end.ensures
       (record { lines = refl; refused = refl; precision = refl; now = refl }) has in
-      let part = rw append-nil at (c.in_ok-write_items.ensures.front pushed before [] start last appends
+      let part = rw append-nil at (c.in_ok-write_items.ensures.prefix pushed before [] start last appends
       (λ e. (refl, refl))) in
       prefix_kept start _ _ _ part c.in_err-flush.ensures.bytes;
   flushed = search rules;
@@ -48,10 +48,10 @@ returns g c =
           (record { lines = refl; refused = refl; precision = refl; now = refl }) has in
           rw all.1.reports.precision at (HasReported-all c.write_items.new.self pushed _ all.1.all_taken ended
           (all.1.reports.reported pushed before last)).1;
-      front = λ pushed before start has appends.
+      prefix = λ pushed before start has appends.
           let last = HasReported-end c.args.self.now _ pushed before c.end.ensures
           (record { lines = refl; refused = refl; precision = refl; now = refl }) has in
-          let part = rw append-nil at (c.in_ok-write_items.ensures.front pushed before [] start last appends
+          let part = rw append-nil at (c.in_ok-write_items.ensures.prefix pushed before [] start last appends
           (λ e. (refl, refl))) in
           prefix_kept start _ _ _ part c.in_ok-flush.ensures.bytes;
       flushed = search rules;

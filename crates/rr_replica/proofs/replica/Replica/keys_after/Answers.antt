@@ -10,11 +10,11 @@ pub loop-preserved : goal.loop-preserved
 loop-preserved g c =
     let es = entries c.args.self.now.cells in
     let e = seen_cell c.in-Some.cell in
-    let front = c.loop.keys.items in
-    let items : c.push.new.self.items ≡ front ++ e.0.key ∷ [] = search rules in
+    let prefix = c.loop.keys.items in
+    let items : c.push.new.self.items ≡ prefix ++ e.0.key ∷ [] = search rules in
     (λ i. items i ++ keys_from (c.first_behind-next-in-loop.ensures i) (c.args.count - (c.loop.counter + 1)) es)
-    ∙ one_taken front c.args.count c.loop.counter e es c.loop-test.true
-    ∙ ap (λ o. front ++ keys_from (option_map seen_cell o) (c.args.count - c.loop.counter) es) (sym c.in-Some.is)
+    ∙ one_taken prefix c.args.count c.loop.counter e es c.loop-test.true
+    ∙ ap (λ o. prefix ++ keys_from (option_map seen_cell o) (c.args.count - c.loop.counter) es) (sym c.in-Some.is)
     ∙ c.loop.invariant
 
 pub returns-in_default : goal.returns-in_default

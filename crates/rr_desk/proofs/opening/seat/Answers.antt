@@ -1,5 +1,0 @@
-use Rattle.rr_desk.proofs.RuleLemmas.{admits}
-use Rattle.rr_desk.proofs.opening.seat.Goals as goal
-
-pub reader-requires : goal.reader-requires
-reader-requires g c x = admits _

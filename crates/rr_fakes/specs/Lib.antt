@@ -1,0 +1,5 @@
+pub mod Clock
+pub mod Log
+pub mod Visits
+pub mod Dial
+pub mod Shelf

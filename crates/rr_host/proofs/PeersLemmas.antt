@@ -1,1 +1,0 @@
--- Peers that are looked for by their addresses.

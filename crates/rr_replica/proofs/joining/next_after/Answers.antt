@@ -1,5 +1,0 @@
-use Rattle.std.proofs.Common.{rules}
-use Rattle.rr_replica.proofs.joining.next_after.Goals as goal
-
-pub returns-else-eq : goal.returns-else-eq
-returns-else-eq c = search rules
