@@ -154,7 +154,7 @@ scripts_are_sound script count = lines_keep_sound None (commands_of script) coun
 
 line_agrees : (m : Option (State Knowledge)) (number : ℕ) (parsed : Result Command SyntaxFault) → IfSome m IsSound
     → after_line cell_model (option_map in_cells m) number parsed ≡ step_in_cells
-        (after_line sample_model m number parsed)
+    (after_line sample_model m number parsed)
 line_agrees m number (Err fault) sound = refl
 line_agrees m number (Ok command) sound = ap (unless_refused (option_map in_cells m) number)
     (commands_agree m command sound) ∙ by (step sample_model m command)

@@ -17,7 +17,7 @@ listed_so_far prefix n left = prefix ++ take n (map named_version left)
 
 pub one_listed : (prefix : List NamedVersion) (count i : ℕ) (e : NamedCell) (left : List NamedCell) → i < count
     → listed_so_far (prefix ++ named_version e ∷ []) (count - (i + 1)) left ≡ listed_so_far prefix (count - i)
-        (e ∷ left)
+    (e ∷ left)
 one_listed prefix count i e left lt =
     append_assoc prefix (named_version e ∷ []) (take (count - (i + 1)) (map named_version left))
     ∙ ap (λ n. prefix ++ take n (map named_version (e ∷ left))) (one_less count i lt)

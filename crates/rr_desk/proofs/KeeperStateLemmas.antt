@@ -128,7 +128,7 @@ pub ended : (v : View) (shown : ReplicaState) (n : Names) (prefix all : BookPref
     → more ≡ cs ++ Edition all ∷ [] → IsReady v shown n prefix more
 ended v shown n prefix all cs more writes joined accepted desk book is =
     let last : prefix_after prefix more ≡ all = ap (prefix_after prefix) is
-        ∙ prefix_after-more prefix cs (Edition all) in
+    ∙ prefix_after-more prefix cs (Edition all) in
     let same : ops_in n cs ≡ ops_in n more = sym (ap (ops_in n) is ∙ ops_in-end_edition n cs all) in record {
       writes = writes;
       joined = joined;
@@ -205,7 +205,7 @@ keeper-same {C = C} held names prefix v w x y own all cs rest ended now same lef
 -- the book has all, and the pending changes are marked
 pub keeper-ended : (v : View) (x : ReplicaState) (n : Names) (own : ReplicaState) (prefix all new : BookPrefix)
     (cs more : List Change) (ended : Bool) → IsKeeper v x n own prefix all cs ended → new.desk ≡ all.desk
-        → Begins (flat new.editions) (v.seen ++ ops_in n cs)
+    → Begins (flat new.editions) (v.seen ++ ops_in n cs)
     → ops_in n more ≡ ops_in n cs → IsReady v x n prefix more → IsKeeper v x n own prefix new more true
 keeper-ended v x n own prefix all new cs more ended k desk begins same ready = record {
   tied = subst (λ (l : List Op). IsTied v x own l) (sym same) k.tied;

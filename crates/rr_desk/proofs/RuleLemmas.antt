@@ -46,7 +46,7 @@ admits x views k = record {
 -- one view changes, and fits
 set_fits : (x : CopyState) (list : List Op) (writer : ℕ) (views : List View) (handle : ℕ) (w : View)
     → ((j : ℕ) (v : View) → j ≢ handle → get_elem? views j ≡ some v → Fits x list writer j v)
-        → Fits x list writer handle w
+    → Fits x list writer handle w
     → (j : ℕ) (v : View) → get_elem? (set views handle w) j ≡ some v → Fits x list writer j v
 set_fits x list writer views handle w others here j v at =
     ⊎_elim (λ (t : (j ≡ handle) × (w ≡ v)). subst (λ (k : ℕ). Fits x list writer k v) (sym t.0)
@@ -270,7 +270,7 @@ holds_first x off = record {
   outcome = λ e. let z : true ≡ false = sym e ∙ off in cc;
   each = λ handle v at. ⊎_elim (λ (e : get_elem? [] handle ≡ some v). absurd (some-ne-none v (sym e)))
       (λ (e : newcomer ≡ v). subst (Fits x [] 0 handle) e (newcomer_fits x [] 0 handle))
-          (at_snoc [] newcomer v handle at);
+      (at_snoc [] newcomer v handle at);
 }
 
 -- ---- the keeper tells a new reader
@@ -319,7 +319,7 @@ pub merges : (handle : ℕ) (v : View) (other : ℕ) (w : View) (x : CopyState) 
     → Keeps x (set (set views handle (with_news v w)) other newcomer)
 merges handle v other w x views k at apart there =
     let old : get_elem? views other ≡ some w =
-        ⊎_elim (λ (t : (other ≡ handle) × (with_news v w ≡ w)). absurd (apart t.0))
+    ⊎_elim (λ (t : (other ≡ handle) × (with_news v w ≡ w)). absurd (apart t.0))
     (λ (t : (other ≢ handle) × (get_elem? views other ≡ some w)). t.1)
     (at_set views handle other (with_news v w) w there) in
     let first = set_fits x k.list k.writer views handle (with_news v w) (λ j u ne e. k.each j u e)

@@ -75,7 +75,7 @@ fn quick_copy<A: Cells>(alloc: Global, replica: &Replica<A>) -> Option<Replica<A
     replica.copy(alloc).ok()
 }
 
-/// The cells of the copy that is shown which a summary lacks. If a copy of that is quickly made, it
+/// The cells of the shown copy that a summary lacks. Where a further copy of it is cheap, that one
 /// is compared, so that the keeper doesn't wait for the comparison.
 pub fn lacking<A: Cells>(
     handle: JoinedHandle<A>,

@@ -112,7 +112,7 @@ line_is_skipped left line rest new ended skipping item cut hands = record {
 end_of : (left prefix rest : List ℕ) → left ≡ prefix ++ rest → IsEnd left rest
 end_of left prefix rest e =
     let n : length left - length rest ≡ length prefix =
-        omega (arith, ap length e, length-append prefix rest) in record {
+    omega (arith, ap length e, length-append prefix rest) in record {
       within = omega (arith, ap length e, length-append prefix rest);
       same = sym (ap (λ (k : ℕ). drop k left) n ∙ ap (drop (length prefix)) e ∙ drop-append_seam prefix rest);
     }

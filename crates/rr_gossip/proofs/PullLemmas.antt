@@ -207,7 +207,7 @@ stopped_pulls_take_a_prefix s es cells n limit came lost more (Some rest) fault 
         ap (λ (l : List ℕ). l ++ behind) (concat_more frames piece) ∙ append_assoc (concat frames) piece behind
         ∙ parts in
         let found = prefix_taken s es n limit (frames ++ piece ∷ []) (next.0.0, stopped.pages ++ next.0.1) behind more
-            is
+        is
         fits (recursion_from_All IsFrame (frames ++ piece ∷ [])
         (All-push IsFrame frames piece stopped.read.each frame)) longer taken in
         let pages = stopped.pages in

@@ -2,7 +2,7 @@
 
 ghost use Rattle.std.specs.Prelude.{◌≡◌};
 
-/// Whoever says what time it is.
+/// A source of moments.
 ///
 /// It is seen as the list of the moments that it gave, where that is known, and as the number of
 /// its renewals.

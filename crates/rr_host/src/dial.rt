@@ -6,7 +6,7 @@ ghost use Rattle.rr_host.specs.Faults.{is_without_fault};
 use rr_io::Counted;
 use std::io::{Read, Write};
 
-/// Whoever reaches peers by their addresses.
+/// A way to reach peers by their addresses.
 ///
 /// It is seen as the list of its calls, where that is known.
 pub trait Dial {

@@ -11,8 +11,8 @@ use std::io::{ErrorKind, Read, Write};
 /// A reader or a writer of which one call fails. The calls before it and those after it are passed
 /// on; the one that fails moves no byte.
 ///
-/// It stands in for a stream in tests: whoever opens a stream anew with a greater number of calls
-/// each time meets each of its failures in turn, and in the end none.
+/// It stands in for a stream in tests: a test that opens one again and again, and lets one more
+/// call pass each time, meets each failure once, and in the end none.
 #[derive(Drop)]
 pub struct Failing<S> {
     inner: S,

@@ -48,7 +48,7 @@ line_agrees precision line =
 -- what is read is of the grammar
 held : (precision : Precision) (line : List ℕ) (read : Result LineView LineFault)
     → Holds (λ parsed. IsLineOf precision line (Ok parsed)) (HasFault precision line) read
-        → IsLineOf precision line read
+    → IsLineOf precision line read
 held precision line (Ok parsed) h = h
 held precision line (Err fault) h = h
 

@@ -258,7 +258,7 @@ fault_to : (precision : Precision) (text : List ℕ) → is_nothing text ≡ fal
 fault_to precision text parsed fault (inl h) = no_measurement parsed h.0 h.1
 fault_to precision text parsed fault (inr (measurement, name, inl (tags, tag_text, are, bad))) =
     at_tag measurement.0 tags tag_text
-        (record { present = parsed; tags_text = measurement.1; name = name; are_tags = are })
+    (record { present = parsed; tags_text = measurement.1; name = name; are_tags = are })
     bad
 fault_to precision text parsed fault (inr (measurement, name, inr (tags, has, inl (inl h)))) =
     no_fields measurement.0 tags.0 tags.1 (leads_to_tags text parsed measurement name tags has) has.2

@@ -81,7 +81,7 @@ pub is_name_scanned : (class : Class) (text name rest : List ℕ) → 0 < length
     → text ≡ name ++ rest → IsName class text name rest
 is_name_scanned class text name rest some len whole =
     let prefix : take (name_len class text) text ≡ name = ap (λ (n : ℕ). take n text) len
-        ∙ ap (take (length name)) whole
+    ∙ ap (take (length name)) whole
     ∙ take-append_seam name rest in
     let units : name ≡ escape class (unescape class name) =
     sym (ap (λ (l : List ℕ). escape class (unescape class l)) (sym prefix) ∙ escape-unescape class text ∙ prefix) in

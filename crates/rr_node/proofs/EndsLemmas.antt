@@ -31,24 +31,24 @@ pub lines_over : (config : Config) (result : Result Report NodeFault) (came : Op
     → (calls : List Call) × HasCalled a c calls × EndsLines config came old new given since calls
 lines_over config result came a b c before after old new given since gave took served stopped at_once tell faults going
     = (
-  Gave before ∷ TookBack after ∷ [],
-  called_more a b c (Gave before ∷ []) (TookBack after ∷ []) gave took,
-  inr (inr (
-    before,
-    after,
-    refl,
-    record {
-      result = result;
-      served = served;
-      stopped = stopped;
-      at_once = at_once;
-      faults = faults;
-      blamed =
-          lines_blamed result before after tell faults;
-      going = going;
-    },
-  )),
-)
+      Gave before ∷ TookBack after ∷ [],
+      called_more a b c (Gave before ∷ []) (TookBack after ∷ []) gave took,
+      inr (inr (
+        before,
+        after,
+        refl,
+        record {
+          result = result;
+          served = served;
+          stopped = stopped;
+          at_once = at_once;
+          faults = faults;
+          blamed =
+              lines_blamed result before after tell faults;
+          going = going;
+        },
+      )),
+    )
 
 -- a pull that a fault of its session ended
 pub pull_over : (address : List ℕ) (why : GossipFault) (a b c : Option (List DialCall)) (before after : Stream)

@@ -36,7 +36,7 @@ one_past all old number address left now mid dialed first reported fault h other
 
 pub all_past : (all : List (List ℕ)) (old : KeeperState) (number : ℕ) (now : KeeperState) (dialed : List DialCall)
     (reported : List ShelfCall) → GoesOn all old number [] now dialed reported
-        → EndsPulls true 1 all old now dialed reported
+    → EndsPulls true 1 all old now dialed reported
 all_past all old number now dialed reported h =
     let whole = h true now [] [] (refl, refl, refl, refl) in rw (append-nil dialed, append-nil reported) at whole
 

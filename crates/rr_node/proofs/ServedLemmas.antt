@@ -46,7 +46,7 @@ of_first fault (inr e) = inr (inr (inl e))
 -- the first byte was not read
 pub served_unread : {X : Type 0} (fault : NodeFault) (had left out : Option (List ℕ)) (at : ReaderAndGate)
     → Consumes had left [] → (fault ≡ ReadFailed) ⊎ (fault ≡ TooManyReads)
-        → IsServed {X = X} (Err fault) had left out out at at
+    → IsServed {X = X} (Err fault) had left out out at at
 served_unread {X} fault had left out at unread why = record {
   seen = seen_same at.reader;
   answered = tt;

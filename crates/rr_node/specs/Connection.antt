@@ -222,7 +222,7 @@ ServedAll old before now counted moments written since =
 -- memory ran out or a write failed, and the lines were served so far
 pub record AnswersLines {C W X : Type 0} (given : C → Option (List ℤ)) (renewals : C → ℕ)
     (contents : W → Option (List ℕ)) (old new : Connection) (before now : KeeperState) (clock clock_new : C)
-        (output output_new : Counted W)
+    (output output_new : Counted W)
     (result : Result X NodeFault) : Type 0 where
   pub served : OnOk result ((moments : List ℤ) × (text : List ℕ) × HasGiven (given clock) (given clock_new) moments
       × WritesWhole contents output output_new text × ServedAllItems old new before now moments text)
@@ -236,7 +236,7 @@ pub record AnswersLines {C W X : Type 0} (given : C → Option (List ℤ)) (rene
 -- written and passed on; or memory ran out or a write failed, and the lines were served so far
 pub record Finishes {C W : Type 0} (given : C → Option (List ℤ)) (renewals : C → ℕ) (contents : W → Option (List ℕ))
     (old : Connection) (before now : KeeperState) (clock clock_new : C) (output output_new : Counted W)
-        (result : Result Report NodeFault)
+    (result : Result Report NodeFault)
     : Type 0 where
   pub served : IfOk result (λ counted. (moments : List ℤ) × HasGiven (given clock) (given clock_new) moments
       × ServedAll old before now counted moments (contents (inner_of output)) (contents (inner_of output_new)))

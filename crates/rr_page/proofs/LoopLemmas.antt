@@ -81,7 +81,7 @@ module _ (v : Version) (s : Layout) (prefix : List NamedCell) (count i : ℕ) (b
       (cells_at v s (Some first.0.0) (count - (i + 1)) first.1) >>= λ (others : List NamedCell × List ℕ). Ok
       (first.0 ∷ others.0, others.1))) h
       ∙ ap (λ (b : Bool). with_prefix prefix
-          (unless OutOfOrder (not b) (cells_at v s (Some e.0) (count - (i + 1)) after)
+      (unless OutOfOrder (not b) (cells_at v s (Some e.0) (count - (i + 1)) after)
       >>= λ (others : List NamedCell × List ℕ). Ok (e ∷ others.0, others.1))) rising
       ∙ regroup prefix e (cells_at v s (Some e.0) (count - (i + 1)) after) in
       ap (λ (o : Option CellName). with_prefix (prefix ++ e ∷ []) (cells_at v s o (count - (i + 1)) after))
@@ -110,7 +110,7 @@ module _ (v : Version) (s : Layout) (prefix : List NamedCell) (count i : ℕ) (b
       (cells_at v s (Some first.0.0) (count - (i + 1)) first.1) >>= λ (others : List NamedCell × List ℕ). Ok
       (first.0 ∷ others.0, others.1))) h
       ∙ ap (λ (b : Bool). with_prefix prefix
-          (unless OutOfOrder (not b) (cells_at v s (Some e.0) (count - (i + 1)) after)
+      (unless OutOfOrder (not b) (cells_at v s (Some e.0) (count - (i + 1)) after)
       >>= λ (others : List NamedCell × List ℕ). Ok (e ∷ others.0, others.1))) falling
 
   pub is_done : count ≤ i → total ≡ Ok (prefix, bytes)

@@ -103,7 +103,7 @@ pub ReadsPrefix-archive : (s : Layout) → ReadsPrefix (archive_at s)
 unfolding archive_at
 ReadsPrefix-archive s = ReadsPrefix-then (number_at w8) _ (ReadsPrefix-number w8)
     (λ a. ReadsPrefix-unless BadArchive (not (nat_lt a (length s.archives))) (λ bytes. Ok (a, bytes))
-        (ReadsPrefix-done a))
+    (ReadsPrefix-done a))
 
 pub ReadsPrefix-contribution : (v : Version) → ReadsPrefix (contribution_at v)
 unfolding contribution_at
@@ -148,7 +148,7 @@ ReadsPrefix-cells v s before (suc n) =
     ReadsPrefix-then (cell_at v s) _ (ReadsPrefix-cell v s) (λ e.
     ReadsPrefix-then (λ bytes. unless OutOfOrder (not (is_after before e.0)) (cells_at v s (Some e.0) n bytes)) _
     (ReadsPrefix-unless OutOfOrder (not (is_after before e.0)) (cells_at v s (Some e.0) n)
-        (ReadsPrefix-cells v s (Some e.0) n))
+    (ReadsPrefix-cells v s (Some e.0) n))
     (λ es. ReadsPrefix-done (e ∷ es)))
 
 -- ---- a page

@@ -24,7 +24,7 @@ pub fn one_archive_is_added()
     ensures less { OneLessIsLayout }
 {}
 
-/// What was added to an older schema is told by the bytes of its archives.
+/// The bytes of a schema's archives tell which archive a later schema added.
 pub fn bytes_tell_the_addition()
     ensures { AdditionsAreFound }
 {}

@@ -76,7 +76,7 @@ same_schema v s t fault now new is read = subst (λ (u : Layout). StreamGives {X
 module _ (v : Version) (s : Layout) (prefix : List NamedCell) (count i : ℕ) (lt : i < count) where
   pub goes_on_stream : (old now new : Option (List ℕ)) (e : NamedCell) → IsSoFar v s prefix count i old now
       → Read v s e now new → is_after (last_name prefix) e.0 ≡ true
-          → IsSoFar v s (prefix ++ e ∷ []) count (i + 1) old new
+      → IsSoFar v s (prefix ++ e ∷ []) count (i + 1) old new
   goes_on_stream None now new e so_far step rising = tt
   goes_on_stream (Some all) now new e so_far step rising =
       let next = subst (λ (o : Option (List ℕ)). Read v s e o new) so_far.1 step in (
@@ -92,7 +92,7 @@ module _ (v : Version) (s : Layout) (prefix : List NamedCell) (count i : ℕ) (l
             (sym after)
             ∙ goes_on v s prefix (i + suc n) i so_far.0 (cells_at v s None (i + suc n) all)
             (ap (λ (m : ℕ). with_prefix prefix (cells_at v s (last_name prefix) m so_far.0)) before ∙ so_far.3 (suc n))
-                e
+            e
             next.0 (omega arith) (page_ok (cell_at v s so_far.0) (e, next.0) next.2) rising
             ∙ ap (λ (m : ℕ). cells_at v s None m all) all_of,
       )

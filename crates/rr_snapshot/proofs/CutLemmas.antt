@@ -133,7 +133,7 @@ module _ (s : Layout) (h : Head) (es : List NamedCell) (bytes prefix rest : List
 
   by_archives : (left : List ℕ) → Cut (archives_at v s number) left rest (h.addition, h.origin) counted
       → snapshot_at s prefix ≡ with_archives (as_in_page (archives_at v s number left))
-          → snapshot_at s prefix ≡ Err Short
+      → snapshot_at s prefix ≡ Err Short
   by_archives left (inl short) so_far = so_far ∙ ap
       (λ (r : Result ((Addition × ℕ) × List ℕ) PageFault). with_archives (as_in_page r)) short
   by_archives left (inr c) so_far =

@@ -134,7 +134,7 @@ archives_takes v s n bytes a o rest fits e =
     field.with_ok (ok_or (fitting_addition v s own.0) SchemaDiffers) _ ((a, o), rest) e0 (λ told i1 e1.
     field.with_ok (number_at w16 own.1) _ ((a, o), rest) e1 (λ origin i2 e2.
     let found = found_addition s (fits_addition v s own.0) told
-        (ok_or_is (fitting_addition v s own.0) SchemaDiffers told i1) in
+    (ok_or_is (fitting_addition v s own.0) SchemaDiffers told i1) in
     let is = both (has_masks_for v (older s told)) (had_archives s own.0 told) found.1 in
     let archives = flat_map archive_bytes (older s told).archives in
     let same : own.0 ≡ archives = (bytes_decides own.0 archives).0 is.1 in

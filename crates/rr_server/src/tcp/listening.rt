@@ -14,7 +14,7 @@ use std::os::fd::OwnedFd;
 /// what fails at once, again and again, takes no processor.
 const PAUSE: i64 = 100_000_000;
 
-/// A listener that waits for a second at most. Of a socket that limit is set as a stream's.
+/// A listener that waits for a second at most: a limit that is set through a stream of its socket.
 fn with_limit(listener: TcpListener) -> io::Result<TcpListener> {
     let socket = TcpStream::from(OwnedFd::from(listener));
     socket.set_read_timeout(Some(one_second()))?;

@@ -54,6 +54,6 @@ returns g c =
     let none = ap (λ (k : ℕ). output_from cell_model before.0 (map line_view (drop k lines))) last
     ∙ ap (λ (ls : List ScriptLine). output_from cell_model before.0 (map line_view ls)) (drop-length lines) in
     let cells : c.loop-line.text.items ≡ output_of cell_model c.args.script.now =
-        sym (append-nil c.loop-line.text.items)
+    sym (append-nil c.loop-line.text.items)
     ∙ ap (λ (text : List ℕ). c.loop-line.text.items ++ text) (sym none) ∙ before.2 in
     record { cells = cells; samples = cells ∙ scripts_agree c.args.script.now }

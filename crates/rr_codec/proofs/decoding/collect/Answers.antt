@@ -27,7 +27,7 @@ loop-preserved c =
     ap (λ (es : List SlotEntry). with_prefix es
     (cells_at c.cell_at.new.known (c.args.count - (c.loop.counter + 1)) c.in-Ok.after.now)) items
     ∙ prefix_goes_on c.loop.known c.cell_at.new.known c.loop.cells.items cell c.args.count c.loop.counter
-        c.loop.rest.now
+    c.loop.rest.now
     c.in-Ok.after.now c.loop-test.true c.in-Ok.ensures.read.read
     ∙ c.loop.invariant
 

@@ -93,7 +93,7 @@ returns-in_err-flush-clause-sent g c = record {
   prefix =
       let so_far = c.loop-frame.invariant in
       prefix_kept _ _ _ _ (frames_before _ _ _ _ so_far.before _ so_far.replies.all_are so_far.replies.few
-          so_far.written)
+      so_far.written)
       c.flush.ensures.bytes;
   flushed = search rules;
   failures_never_fall = search rules;
@@ -115,7 +115,7 @@ returns-clause-sent g c = record {
   prefix =
       let so_far = c.loop-frame.invariant in
       prefix_kept _ _ _ _ (frames_before _ _ _ _ so_far.before _ so_far.replies.all_are so_far.replies.few
-          so_far.written)
+      so_far.written)
       c.flush.ensures.bytes;
   flushed = search rules;
   failures_never_fall = search rules;

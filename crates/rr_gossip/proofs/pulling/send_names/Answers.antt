@@ -96,7 +96,7 @@ returns-in_err-flush-clause-sent g c = record {
   prefix =
       let so_far = c.loop-frame.invariant in
       prefix_kept _ _ _ _ (frames_before _ _ _ _ so_far.before _ so_far.sends.all so_far.sends.few so_far.written)
-          c.flush.ensures.bytes;
+      c.flush.ensures.bytes;
   flushed = search rules;
   failures_never_fall = search rules;
   failed = search rules;
@@ -123,7 +123,7 @@ returns-clause-sent g c = record {
   prefix =
       let so_far = c.loop-frame.invariant in
       prefix_kept _ _ _ _ (frames_before _ _ _ _ so_far.before _ so_far.sends.all so_far.sends.few so_far.written)
-          c.flush.ensures.bytes;
+      c.flush.ensures.bytes;
   flushed = search rules;
   failures_never_fall = search rules;
   failed = search rules;

@@ -18,4 +18,4 @@ returns c =
     strip_some SPACE c.split_at.result.1.now field (search rules) in
     let rest : drop at key ≡ c.split_at.result.1.now = search rules in
     subst (λ (t : List ℕ). IsCut key t field) prefix
-        (cut_at_space key field at c.in_ok-at.ensures none (rest ∙ follows))
+    (cut_at_space key field at c.in_ok-at.ensures none (rest ∙ follows))

@@ -21,12 +21,15 @@ returns-in-Ok-clause-taken g c = record {
       let back = to_z-of_z {w = w64} {z = now} (search rules) in
       let same = length-map c.args.point.now.fields.items field_view in
       let verdict = verdict_put_of c.args.lead now (own_replica k) p (length c.args.point.now.fields.items)
-          c.write.result
+      c.write.result
       same (record { is_ahead = rw back at c.write.ensures.ahead; lacks = rw back at c.write.ensures.spent })
       (λ e. cc) (λ e. cc) in
-      let Is : Verdict → Type 0 = λ v. (new ≡ keeper_with k v) × IsAnswer v (says.Put c.in-Ok.count) in
-      (now, c.now-now.ensures.given, subst Is (sym verdict)
-          (rw back at c.in-Ok.ensures.put, c.in-Ok.ensures.count ∙ sym same));
+      let Is : Verdict → Type 0 = λ v. (new ≡ keeper_with k v) × IsAnswer v (says.Put c.in-Ok.count) in (
+        now,
+        c.now-now.ensures.given,
+        subst Is (sym verdict)
+            (rw back at c.in-Ok.ensures.put, c.in-Ok.ensures.count ∙ sym same),
+      );
   count_fits = omega (
     arith,
     c.in-Ok.ensures.count,
@@ -47,7 +50,7 @@ returns-in-Err-Memory-clause-taken g c = record {
       let is : c.write.result ≡ Err (why.Memory put) = cc in
       let same = length-map c.args.point.now.fields.items field_view in
       let verdict = verdict_put_of c.args.lead now (own_replica k) p (length c.args.point.now.fields.items)
-          c.write.result
+      c.write.result
       same (record { is_ahead = rw back at c.write.ensures.ahead; lacks = rw back at c.write.ensures.spent })
       (λ e. cc) (λ e. cc) in
       let Is : Verdict → Type 0 = λ v. (count : ℕ) × (new ≡ keeper_with_some k v count) in

@@ -27,8 +27,10 @@ is_same a b n t v = λ i. record {
 same : (a b : LoneSample) → Decides ((own).it a b) (a ≡ b)
 same a b = Decides-like ((own).it a b)
     (λ p. is_same a b p.0 p.1.0 p.1.1)
-    (λ e. (ap (λ (r : LoneSample). r.number) e,
-        (ap (λ (r : LoneSample). r.time) e, ap (λ (r : LoneSample). r.value) e)))
+    (λ e. (
+      ap (λ (r : LoneSample). r.number) e,
+      (ap (λ (r : LoneSample). r.time) e, ap (λ (r : LoneSample). r.value) e),
+    ))
     (Decides-and _ _ (Decides-eqb a.number b.number)
     (Decides-and _ _ (Decides-int_eq a.time b.time) (Decides-int_eq a.value b.value)))
 

@@ -25,7 +25,7 @@ returns-in_err-field-clause-read g c =
     let new = g.R.Read.remaining (inner_of c.fill.new.input) in
     let p = err_from_is_err_and c.from_residual-in_err-field.result c.from_residual-in_err-field.ensures.1 in
     let refused = piece_err 32 (prefix_at 32) (ReadsPrefix-field 32) (HasWidth-field 32) (take c.in_ok-got.got buf) few
-        old
+    old
     new _ c.in_ok-got.ensures.bytes (λ lt. c.in_ok-got.ensures.end
     (omega (arith, got_len, made, c.in_ok-got.ensures.bound, lt))) c.in_err-field.ensures.read in
     rw (p.1, p.2) (inr (inr (refused_then (λ all. as_in_page (prefix_at 32 all))
@@ -42,7 +42,7 @@ returns-then-ne-clause-read g c =
     let old = g.R.Read.remaining (inner_of c.args.input.now) in
     let new = g.R.Read.remaining (inner_of c.fill.new.input) in
     let step = piece_ok 32 (prefix_at 32) (ReadsPrefix-field 32) (HasWidth-field 32) (take c.in_ok-got.got buf) few old
-        new
+    new
     c.in_ok-field.field.now _ c.in_ok-got.ensures.bytes c.in_ok-field.ensures.read in
     let differs : not (pointwise nat_eq c.in_ok-field.field.now c.args.digest.now) ≡ true =
     ap (λ (d : List ℕ). not (pointwise nat_eq c.in_ok-field.field.now d)) (sym c.as_slice.ensures)
@@ -62,7 +62,7 @@ returns-clause-read g c =
     let old = g.R.Read.remaining (inner_of c.args.input.now) in
     let new = g.R.Read.remaining (inner_of c.fill.new.input) in
     let step = piece_ok 32 (prefix_at 32) (ReadsPrefix-field 32) (HasWidth-field 32) (take c.in_ok-got.got buf) few old
-        new
+    new
     c.in_ok-field.field.now _ c.in_ok-got.ensures.bytes c.in_ok-field.ensures.read in
     let same : not (pointwise nat_eq c.in_ok-field.field.now c.args.digest.now) ≡ false =
     ap (λ (d : List ℕ). not (pointwise nat_eq c.in_ok-field.field.now d)) (sym c.as_slice.ensures)

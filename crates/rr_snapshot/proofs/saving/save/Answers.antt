@@ -106,7 +106,7 @@ returns-clause-saves g c = record {
       (c.in_ok-write_cells.ensures.digest c.deref.result.now (c.write_piece.ensures.digest [] c.new-hasher.ensures)))
       in
       whole_is_prefix a e _
-          (written_whole c.args.replica.now.schema c.args.replica.now.origin es c.deref.result.now is a
+      (written_whole c.args.replica.now.schema c.args.replica.now.origin es c.deref.result.now is a
       b
       d e c.finalize.result c.in_ok-write_piece.ensures.writes.whole c.in_ok-write_cells.ensures.whole digest
       c.in_ok-write_all.ensures.whole);

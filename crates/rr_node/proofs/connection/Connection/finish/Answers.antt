@@ -46,11 +46,11 @@ returns-in_err-publish g c = record {
             let last = HasServed-end c.args.self.now _ start c.args.keeper.now pushed text parsed c.end.ensures
             (record { lines = refl; report = refl; rules = refl }) has in
             let stops = stops_answering _ c.answer_lines.new.self start c.args.keeper.now c.answer_lines.new.keeper
-                pushed
+            pushed
             text served.1 parsed served.0 first _ since served.4.items last appends
             (served.1, [], sym (append-nil served.1), served.3) in
             subst (λ (k : KeeperState). Stops c.args.self.now.rules start k (λ bytes. bytes ≡ pushed)
-                (parsed ++ served.0)
+            (parsed ++ served.0)
             first since) (sym c.in_err-publish.ensures.state.unchanged)
             (stops_of _ c.args.self.now.rules start c.answer_lines.new.keeper (ComesAfter c.end.new.self pushed)
             (λ bytes. bytes ≡ pushed) (parsed ++ served.0) first since refl (comes_at_end c.end.new.self pushed) stops),
@@ -114,7 +114,7 @@ returns g c = record {
             subst (λ (r : Rules). IsWhole r start c.publish.new.self new.report pushed (parsed ++ served.0) first
             (g.W.Write.contents (inner_of c.send_report.new.output))) served.4.items.rules
             (whole_of new start c.answer_lines.new.keeper c.publish.new.self pushed (text ++ served.1)
-                (parsed ++ served.0)
+            (parsed ++ served.0)
             new.report first _ _ done c.in_ok-publish.ensures.state.made refl
             (Appends-trans _ _ _ text served.1 appends served.3) c.in_ok-send_report.ensures.sends.whole),
       );

@@ -15,7 +15,7 @@ loop-number-preserved c =
     copied_more c.args.self.now.older.items (deque_iter_rest c.loop-number.number-iterator)
     (deque_iter_rest c.next.new.self) c.loop-number.older.items c.push_back.new.self.items c.in-Some.number
     c.in-Some.block c.in_ok-copy.field-0 c.loop-number.invariant (search rules) (search rules) (search rules)
-        (search rules)
+    (search rules)
 
 pub invariant_of-result : goal.invariant_of-result
 invariant_of-result c =
@@ -31,7 +31,7 @@ invariant_of-result c =
       none_before =
           let same : to_z w64 (of_z w64 a.dropped) ≡ a.dropped = search rules in
           ap (λ d. begins_before d (keys_of (c.loop-number.older.items ++ option_to_list c.in_ok-copy_newest.field-0)))
-              same
+          same
           ∙ ap (begins_before a.dropped) numbers ∙ a.none_before;
     }
 

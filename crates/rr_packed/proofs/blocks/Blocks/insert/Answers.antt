@@ -37,11 +37,11 @@ invariant_of-self c =
           subst (λ d. begins_before d (keys_of (c.insert.new.self.items ++ option_to_list p.newest)) ≡ false) (sym is)
           (either c.insert.result
           (on_ok_weaker c.insert.result
-              (λ items. subst (λ l. begins_before least (keys_of (l ++ option_to_list p.newest))
+          (λ items. subst (λ l. begins_before least (keys_of (l ++ option_to_list p.newest))
           ≡ false) (sym (items ∙ ap (λ n. insert p.older.items c.args.at (n, c.args.block)) number))
           (added.none_before least kept (min_right p.dropped c.args.number))) c.insert.ensures.items)
           (on_err_weaker c.insert.result
-              (λ same. subst (λ l. begins_before least (keys_of (l ++ option_to_list p.newest))
+          (λ same. subst (λ l. begins_before least (keys_of (l ++ option_to_list p.newest))
           ≡ false) (sym same.0) kept) c.insert.ensures.unchanged));
     }
 
@@ -93,7 +93,7 @@ invariant_of-self-else-is_some c =
           let kept = begins_later r.dropped least (keys_of (all_blocks r)) r.none_before (min_left r.dropped
           c.args.number) in
           subst (λ d. begins_before d
-              (keys_of (r.older.items ++ (to_z w64 (of_z w64 c.args.number), c.args.block) ∷ []))
+          (keys_of (r.older.items ++ (to_z w64 (of_z w64 c.args.number), c.args.block) ∷ []))
           ≡ false) (sym is)
           (subst (λ l. begins_before least (keys_of (l ++ (to_z w64 (of_z w64 c.args.number), c.args.block) ∷ []))
           ≡ false) older

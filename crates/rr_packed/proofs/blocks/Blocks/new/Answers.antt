@@ -9,8 +9,11 @@ pub invariant_of-result : goal.invariant_of-result
 unfolding IsStrictlySortedBy
 invariant_of-result c =
     let none : c.new.result.items ≡ [] = search rules in
-    record { ordered = subst (λ es. IsStrictlySortedBy int_cmp (keys_of (es ++ []))) (sym none) tt; none_before =
-        subst (λ es. begins_before _ (keys_of (es ++ [])) ≡ false) (sym none) refl }
+    record {
+      ordered = subst (λ es. IsStrictlySortedBy int_cmp (keys_of (es ++ []))) (sym none) tt;
+      none_before =
+          subst (λ es. begins_before _ (keys_of (es ++ [])) ≡ false) (sym none) refl;
+    }
 
 pub returns : goal.returns
 returns c =

@@ -5,4 +5,4 @@ use Rattle.rr_packed.proofs.held_block.HeldBlock.entries_on.Goals as goal
 pub returns : goal.returns
 returns c =
     c.entries_on.ensures ∙ ap (λ f. entries_in_all (λ i. f (c.args.rows.first.value + i)) c.args.rows.count)
-        c.block.ensures
+    c.block.ensures

@@ -59,7 +59,7 @@ returns-clause-room c = λ room.
     slice_get-get_or made.rows.items c.args.number was within ∙ ap (λ x. Some x) (sym c.index_mut.ensures.value) in
     c.change.ensures.room (subst (λ z. IsTrue (has_room_at (Some was) z c.args.origin)) (sym slot)
     (block_room c.args.self.now made c.args.number was c.args.slot c.args.origin c.make_rows.ensures.rows_stay has
-        room))
+    room))
 
 pub returns-clause-is_new : goal.returns-clause-is_new
 returns-clause-is_new c =
