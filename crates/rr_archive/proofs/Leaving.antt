@@ -1,4 +1,4 @@
--- Rows that leave from the prefix, until the first is live.
+-- Rows that leave from the first on, until the first is live.
 use Rattle.std.proofs.Common.{◌≡◌, ℕ, ◌-◌, ℤ, pos, ◌-ℤ◌, Bool, true, false, cond, not, List, [], ◌∷◌, ◌++◌, drop, length, refl, sym, ap, ◌∙◌, true≢false, Some, Less, int_cmp, arith}
 use Rattle.std.specs.Prelude.{int_lt}
 use Rattle.std.specs.Global.{Vec}

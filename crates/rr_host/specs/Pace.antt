@@ -18,7 +18,7 @@ passed_next passed = if passed == 0 then 1 else min (passed * 2) MOST_PASSED
 abbrev pub within_64_bits : ℕ → ℕ
 within_64_bits n = min n (2 ^ 64 - 1)
 
--- whether after so many seconds an interval is past, and those that are passed over
+-- whether so many seconds last as long as an interval and those that are passed over
 abbrev pub is_past : (elapsed every passed : ℕ) → Bool
 is_past elapsed every passed = nat_le (within_64_bits (every * within_64_bits (passed + 1))) elapsed
 

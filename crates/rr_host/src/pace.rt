@@ -42,7 +42,7 @@ fn is_past(elapsed: u64, every: u64, passed: u64) -> bool
 }
 
 impl Pace {
-    /// The pace of what is due once an interval of so many seconds, or without one at any time. It
+    /// The pace of what is due once in so many seconds, or at any time where these are missing. It
     /// has not been done yet.
     pub fn new(every: Option<u64>) -> Pace
         ensures { result ≡ record { every = every; last = None; passed = 0 } }

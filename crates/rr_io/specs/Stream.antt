@@ -9,11 +9,11 @@ use Rattle.rr_io.specs.Counted.{inner_of, failures_of, is_flushed, reads_of, Has
 abbrev pub AppendsPrefix : Option (List ℕ) → Option (List ℕ) → List ℕ → Type 0
 AppendsPrefix old new text = (prefix : List ℕ) × (rest : List ℕ) × (text ≡ prefix ++ rest) × Appends old new prefix
 
--- where the bytes of a reader are known, some were taken from their prefix, or none
+-- where the bytes of a reader are known, some were taken from their beginning, or none
 abbrev pub ConsumesSome : Option (List ℕ) → Option (List ℕ) → Type 0
 ConsumesSome old new = (bytes : List ℕ) × Consumes old new bytes
 
--- where the bytes of a reader are known, at most so many were taken from their prefix
+-- where the bytes of a reader are known, at most so many were taken from their beginning
 abbrev pub TakesAtMost : ℕ → Option (List ℕ) → Option (List ℕ) → Type 0
 TakesAtMost n old new = (bytes : List ℕ) × (length bytes ≤ n) × Consumes old new bytes
 

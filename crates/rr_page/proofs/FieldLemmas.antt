@@ -47,7 +47,7 @@ done x = Ok x
 pub ok_is : {A : Type 0} (x y : A) → done x ≡ done y → x ≡ y
 ok_is x y e = cc
 
--- what a reader took from the prefix
+-- what a reader took from the beginning
 pub record Takes (bytes text rest : List ℕ) : Type 0 where
   pub parts : bytes ≡ text ++ rest
   pub rest_fits : AreBytes rest

@@ -57,7 +57,7 @@ abbrev pub Digests : Option (List ℕ) → Option (List ℕ) → Sha256 → Sha2
 Digests old new before after = (taken : List ℕ) × Consumes old new taken
     × ((m : List ℕ) → Holds256 before m → Holds256 after (m ++ taken))
 
--- what a call did with the reader that it loads from: it took some bytes from the prefix, or none, and says that a read
+-- what a call did with the reader that it loads from: it took some bytes from the beginning, or none, and says that a read
 -- failed only if one did
 pub record LoadsFrom {R X : Type 0} (remaining : R → Option (List ℕ)) (old new : Counted R)
     (result : Result X LoadFault) : Type 0 where

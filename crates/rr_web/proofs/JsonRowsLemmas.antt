@@ -1,5 +1,5 @@
 -- The records of a fetch, read as rows of JSON.
-use Rattle.std.proofs.Common.{◌≡◌, Bool, true, false, ◌||◌, eqb, ℕ, ◌<◌, suc, ℤ, pos, negsuc, List, [], ◌∷◌, ◌++◌, map, drop, Option, Some, None, refl, ap, subst, ◌∙◌, append_assoc, arith, inl, inr}
+use Rattle.std.proofs.Common.{◌≡◌, Bool, true, false, ◌||◌, eqb, ℕ, ◌<◌, ℤ, pos, negsuc, List, [], ◌∷◌, ◌++◌, map, drop, Option, Some, None, refl, ap, subst, ◌∙◌, append_assoc, arith, inl, inr}
 use Rattle.std.specs.Prelude.{FitsSigned, IfSome, codes, ◌==◌}
 use Rattle.std.specs.Char.{digit_value}
 use Rattle.std.specs.Fmt.{decimal, signed_decimal}
@@ -16,6 +16,7 @@ use Rattle.std.proofs.lemmas.List.Splits.{slice_split-cons_no, slice_split-cons_
 use Rattle.rr_text.specs.Bytes.{HasNoLineFeed}
 use Rattle.rr_text.specs.declared.bytes.TheConstants.{COMMA, LINE_FEED}
 use Rattle.rr_cells.specs.FetchText.{comma, double_quote, doubled, field_text, is_special, record_text, value_text}
+use Rattle.rr_fetch.proofs.CsvLemmas.{plain_signed}
 use Rattle.rr_web.specs.Json.{cut_last, row_behind, row_of, value_of}
 use Rattle.rr_web.specs.JsonRows.{IsRow, RecordsAreRows, row_json, value_json, with_commas}
 
@@ -51,30 +52,9 @@ no_comma (b ∷ text) e =
 
 -- ---- numbers
 
-plain_digit : (byte : ℕ) → digit_value byte < 10 → is_special byte ≡ false
-plain_digit byte digit =
-    let other : (special : ℕ) → (digit_value special < 10 → ⊥) → eqb byte special ≡ false = λ special bad.
-    elim (cases_Bool (eqb byte special)) [
-      | inl same ↦ absurd (bad (subst (λ (b : ℕ). digit_value b < 10) (eqb-true byte special same) digit))
-      | inr differs ↦ differs
-    ] in
-    let comma = other 44 (λ h. absurd (omega arith)) in
-    let quote = other 34 (λ h. absurd (omega arith)) in
-    let return = other 13 (λ h. absurd (omega arith)) in
-    let feed = other 10 (λ h. absurd (omega arith)) in
-    rw (comma, quote, return, feed) refl
-
-plain_digits : (text : List ℕ) → AllDigits 10 text → list_any is_special text ≡ false
-plain_digits [] all = refl
-plain_digits (byte ∷ text) all = rw (plain_digit byte all.0, plain_digits text all.1) refl
-
-plain : (n : ℤ) → FitsSigned w64 n → list_any is_special (signed_decimal n) ≡ false
-plain (pos n) fits = plain_digits (decimal n) (decimal_is_IsNumeral n (omega (arith, ints))).0.1
-plain (negsuc n) fits = plain_digits (decimal (suc n)) (decimal_is_IsNumeral (suc n) (omega (arith, ints))).0.1
-
 plain_value : (value : Option ℤ) → IfSome value (FitsSigned w64) → list_any is_special (value_text value) ≡ false
 plain_value None fits = refl
-plain_value (Some value) fits = plain value fits
+plain_value (Some value) fits = plain_signed value fits
 
 -- ---- lines
 
@@ -105,7 +85,7 @@ regrouped key start value rest = simp append_assoc
 
 record_is : (key : List ℕ) (row : ℤ × Option ℤ) (rest : List ℕ) → IsRow row
     → record_text key row ++ rest ≡ line_of key row ++ LINE_FEED ∷ rest
-record_is key row rest is = rw (plain row.0 is.0, plain_value row.1 is.1)
+record_is key row rest is = rw (plain_signed row.0 is.0, plain_value row.1 is.1)
     (regrouped (field_text key) (signed_decimal row.0) (value_text row.1) rest)
 
 doubled_lack : (text : List ℕ) → Lacks is_feed text → Lacks is_feed (flat_map doubled text)
@@ -127,7 +107,7 @@ key_lacks key none =
 
 line_lacks : (key : List ℕ) (row : ℤ × Option ℤ) → HasNoLineFeed key → IsRow row → Lacks is_feed (line_of key row)
 line_lacks key row none is =
-    let start = no_feed (signed_decimal row.0) (plain row.0 is.0) in
+    let start = no_feed (signed_decimal row.0) (plain_signed row.0 is.0) in
     let value = no_feed (value_text row.1) (plain_value row.1 is.1) in
     lacks_both is_feed (field_text key ++ COMMA ∷ signed_decimal row.0) (COMMA ∷ value_text row.1)
     (lacks_both is_feed (field_text key) (COMMA ∷ signed_decimal row.0) (key_lacks key none) start) value
@@ -177,7 +157,7 @@ row_is key row is =
     behind (line_of key row) (not_empty before (value_text row.1))
     ∙ rw (
       cut_here before (value_text row.1) (no_comma (value_text row.1) (plain_value row.1 is.1)),
-      cut_here (field_text key) (signed_decimal row.0) (no_comma (signed_decimal row.0) (plain row.0 is.0)),
+      cut_here (field_text key) (signed_decimal row.0) (no_comma (signed_decimal row.0) (plain_signed row.0 is.0)),
       value_is row.1 is.1,
     ) refl
 
