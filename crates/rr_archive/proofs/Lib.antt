@@ -12,6 +12,7 @@ pub mod Listing
 pub mod Leaving
 pub mod Copying
 pub mod NextCell
+pub mod CellRuns
 pub mod LiveRowsLemmas
 pub mod LiveChanges
 pub mod LiveWalks

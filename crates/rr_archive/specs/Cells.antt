@@ -1,5 +1,5 @@
 -- The cells of one archive of one key: a finite map from cell slots to contributions.
-use Rattle.std.specs.Prelude.{◌≡◌, ℕ, ℤ, List, map, Option, IsTrue}
+use Rattle.std.specs.Prelude.{◌≡◌, ℕ, zero, suc, ℤ, pos, ◌+ℤ◌, List, [], ◌++◌, map, Option, IsTrue}
 use Rattle.std.specs.List.{filter, find}
 use Rattle.std.specs.Ordering.{int_eq, is_lt}
 use Rattle.std.specs.FinMap.{FinMap, empty, get, insert, entries, contains_key}
@@ -46,6 +46,10 @@ IsTrimmed rows m = trimmed (is_live_at rows) m ≡ m
 abbrev pub put_in_archive : ℕ → ArchiveCells → CellSlot → SlotSample → ArchiveCells
 put_in_archive rows m p x = trimmed (is_live_at rows) (with_put m p x)
 
+-- with the cell at a cell slot changed, and then the live cells
+abbrev pub changed_in_archive : ℕ → ArchiveCells → CellSlot → Change → ArchiveCells
+changed_in_archive rows m p change = trimmed (is_live_at rows) (with_change m p change)
+
 -- the two merged, and then the live cells
 abbrev pub join_archive_cells : ℕ → ArchiveCells → ArchiveCells → ArchiveCells
 join_archive_cells rows m n = joined contribution_cmp (is_live_at rows) m n
@@ -63,6 +67,11 @@ entry_of e = record { origin = e.0.origin; contribution = e.1 }
 -- the entries of a slot, ascending by origin
 unfoldable pub row_of : ArchiveCells → ℤ → List Entry
 row_of m slot = map entry_of (filter (λ e. int_eq e.0.slot slot) (entries m))
+
+-- the entries of `n` slots from one on, each with its slot, in order
+unfoldable pub cells_on : ArchiveCells → ℤ → ℕ → List (ℤ × Entry)
+cells_on m slot zero = []
+cells_on m slot (suc n) = map (λ e. (slot, e)) (row_of m slot) ++ cells_on m (slot +ℤ pos 1) n
 
 -- a cell, as its slot and its entry
 abbrev pub cell_of : CellSlot × Contribution → ℤ × Entry

@@ -1,13 +1,15 @@
 //! What an archive of one series does: its cells, and its rows where they can be lent.
-ghost use Rattle.std.specs.Prelude.{◌≡◌, ℕ, Bool, ◌≤◌, IsTrue, IsOk, OnOk, OnErr, IfOk, IfSome, [], ◌∷◌, length, slice_get, vec_capacity};
+ghost use Rattle.std.specs.Prelude.{◌≡◌, ℕ, Bool, ◌≤◌, IsTrue, IsOk, OnOk, OnErr, IfOk, [], length, slice_get, vec_capacity};
 ghost use Rattle.std.specs.Option.{option_map};
 ghost use Rattle.std.specs.FinMap as fin;
 ghost use Rattle.rr_contrib.specs.Contributions.{slot_sample};
 ghost use Rattle.rr_archive.specs.CellSlots.{CellSlot, cell_slot, newest_of, IsSlot};
-ghost use Rattle.rr_archive.specs.Cells.{ArchiveCells, AreInRange, IsTrimmed, put_in_archive, join_cell, row_of, cell_of, next_cell};
-ghost use Rattle.rr_archive.specs.Stored.{ArchiveTakes, CanPut, IsRowCount, IsSameArchive};
+ghost use Rattle.rr_archive.specs.Cells.{ArchiveCells, AreInRange, IsTrimmed, changed_in_archive, put_in_archive, join_cell, row_of, cells_on, cell_of, next_cell};
+ghost use Rattle.rr_archive.specs.Stored.{ArchiveTakes, CanPut, CanTake, IsRowCount, IsSameArchive};
 
+use crate::change::Change;
 use crate::entry::Entry;
+use crate::new_sample::NewSample;
 use rr_contrib::Contribution;
 use rr_schema::Origin;
 use std::alloc::{AllocError, Global};
@@ -16,8 +18,8 @@ use std::alloc::{AllocError, Global};
 ///
 /// It keeps the cells whose slots are live: above the newest slot less the rows of the archive. A
 /// cell of any other slot is past the horizon and leaves no trace. Slots are from -9,223,372,037 to
-/// 9,223,372,037. Only `ready`, `put`, `join_cell` and `copy` take memory, and `entries_into` where
-/// the row that it is given has too little.
+/// 9,223,372,037. Only `ready`, `change`, `put`, `join_cell` and `copy` take memory, and
+/// `entries_into` and `cells_into` where the list that they are given has too little.
 pub trait Cells: Drop {
     ghost cells: { Self → ArchiveCells };
 
@@ -39,7 +41,7 @@ pub trait Cells: Drop {
         ensures empty { cells result ≡ fin.empty }
         ensures limit { row_limit result ≡ rows };
 
-    /// Makes room for a cell, so that the next `put` or `join_cell` at this slot and origin can't
+    /// Makes room for a cell, so that the next change of the cell of this slot and origin can't
     /// fail. It changes no cell. Past the horizon no room is needed, and none is made; where there
     /// is room already, it can't fail.
     fn ready(&mut self, slot: i64, origin: Origin) -> Result<(), AllocError>
@@ -49,13 +51,24 @@ pub trait Cells: Drop {
         ensures room { OnOk result (IsTrue (is_ready self.new (cell_slot slot origin))) }
         ensures room_suffices { IsTrue (is_ready self.old (cell_slot slot origin)) → IsOk result };
 
-    /// Puts a sample of an origin into a slot. Its number, place, time and value are those of
-    /// `Contribution::first`, or where the cell is there, of `Contribution::add`.
+    /// Changes the cell of a slot and an origin, as `put` does by a sample and `join_cell` by a cell
+    /// from elsewhere.
     ///
-    /// Rows that are then past the horizon are no longer held; a sample that is past it itself
+    /// Rows that are then past the horizon are no longer held; a change that is past it itself
     /// changes nothing. After an error nothing has changed. The cost is at most logarithmic in the
     /// rows (one look-up of the slot), and linear in the entries of the row, and in the rows that
     /// go, empty ones too, and their entries.
+    fn change(&mut self, slot: i64, origin: Origin, change: &Change) -> Result<(), AllocError>
+        requires { CanTake (cells self.old) (cell_slot slot origin) change.now }
+        ensures { ArchiveTakes (cell_slot slot origin)
+            (changed_in_archive (row_limit self.old) (cells self.old) (cell_slot slot origin)
+            change.now)
+            (is_ready self.old (cell_slot slot origin)) (row_limit self.old) (row_limit self.new)
+            (cells self.old) (cells self.new) result };
+
+    /// Puts a sample of an origin into a slot. Its number, place, time and value are those of
+    /// `Contribution::first`, or where the cell is there, of `Contribution::add`. The horizon,
+    /// errors and the cost are those of `change`.
     fn put(
         &mut self,
         slot: i64,
@@ -70,12 +83,19 @@ pub trait Cells: Drop {
             (put_in_archive (row_limit self.old) (cells self.old) (cell_slot slot origin)
             (slot_sample number place time value))
             (is_ready self.old (cell_slot slot origin)) (row_limit self.old) (row_limit self.new)
-            (cells self.old) (cells self.new) result };
+            (cells self.old) (cells self.new) result }
+    {
+        let sample = NewSample {
+            number,
+            place,
+            time,
+            value,
+        };
+        self.change(slot, origin, &Change::Put(sample))
+    }
 
-    /// Joins a cell from elsewhere: the greater of the two contributions stays.
-    ///
-    /// Rows that are then past the horizon are no longer held, and a cell that is past it itself
-    /// changes nothing, as in `put`. After an error nothing has changed. The cost is that of `put`.
+    /// Joins a cell from elsewhere: the greater of the two contributions stays. The horizon, errors
+    /// and the cost are those of `change`.
     fn join_cell(
         &mut self,
         slot: i64,
@@ -87,7 +107,10 @@ pub trait Cells: Drop {
             (join_cell (row_limit self.old) (cells self.old) (cell_slot slot origin)
             contribution.now)
             (is_ready self.old (cell_slot slot origin)) (row_limit self.old) (row_limit self.new)
-            (cells self.old) (cells self.new) result };
+            (cells self.old) (cells self.new) result }
+    {
+        self.change(slot, origin, &Change::Join(*contribution))
+    }
 
     /// The greatest slot of a cell, if there is a cell.
     fn newest(&self) -> Option<i64>
@@ -101,16 +124,14 @@ pub trait Cells: Drop {
         ensures emptied { OnErr result (row.new.items ≡ []) }
         ensures room { length (row_of (cells self.now) slot) ≤ vec_capacity row.old → IsOk result };
 
-    /// The entry of a slot that has no other, where it is found at once, and where to look for that
-    /// of the slot after it: `near` is what the call for the slot before answered, or 0. `None`
-    /// says nothing of the entries. The cost is that of `entries_into`, and mostly does not depend
-    /// on the rows if slots are asked for in order.
-    fn lone_entry(&self, slot: i64, near: usize) -> Option<(Entry, usize)>
-        ensures { IfSome result (λ found. row_of (cells self.now) slot ≡ found.0 ∷ []) }
-    {
-        let _ = (slot, near);
-        None
-    }
+    /// Writes the cells of a run of slots from one on, in order, over what a list has, and answers
+    /// how many slots the run is of: as many as cost little to read together, so that whoever reads
+    /// rows one after the other asks once for many. After an error the list may have anything. The
+    /// cost is that of `entries_into`, and linear in the slots and the cells of the run.
+    fn cells_into(&self, slot: i64, run: &mut Vec<(i64, Entry)>) -> Result<u32, AllocError>
+        ensures some { IfOk result (λ slots. 1 ≤ slots) }
+        ensures written { IfOk result
+            (λ slots. run.new.items ≡ cells_on (cells self.now) slot slots) };
 
     /// How many cells there are. The cost is at most linear in the rows.
     fn cell_count(&self) -> usize

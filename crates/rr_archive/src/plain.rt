@@ -10,9 +10,8 @@ use crate::archive::{Archive, Cells};
 use crate::change::Change;
 use crate::entry::Entry;
 use crate::live_slots::{is_live, later};
-use crate::new_sample::NewSample;
+use crate::row::push_cells;
 use crate::slots::Slots;
-use rr_contrib::Contribution;
 use rr_schema::Origin;
 use std::alloc::{AllocError, Global};
 
@@ -30,7 +29,7 @@ pub struct PlainArchive {
 impl PlainArchive {
     /// Changes the cell of a slot and an origin, and lets go of the rows that are then past the
     /// horizon. A change that is past it itself is passed over.
-    fn change(&mut self, slot: i64, origin: Origin, change: &Change) -> Result<(), AllocError>
+    fn change_cell(&mut self, slot: i64, origin: Origin, change: &Change) -> Result<(), AllocError>
         requires { CanTake (cells_in self.old.slots.rows.entries) (cell_slot slot origin)
             change.now }
         ensures { ChangesCell (cell_slot slot origin) change.now self.old.newest
@@ -82,31 +81,8 @@ impl Cells for PlainArchive {
         self.slots.make_room(self.alloc, slot)
     }
 
-    fn put(
-        &mut self,
-        slot: i64,
-        origin: Origin,
-        number: u64,
-        place: u32,
-        time: i64,
-        value: i64,
-    ) -> Result<(), AllocError> {
-        let sample = NewSample {
-            number,
-            place,
-            time,
-            value,
-        };
-        self.change(slot, origin, &Change::Put(sample))
-    }
-
-    fn join_cell(
-        &mut self,
-        slot: i64,
-        origin: Origin,
-        contribution: &Contribution,
-    ) -> Result<(), AllocError> {
-        self.change(slot, origin, &Change::Join(*contribution))
+    fn change(&mut self, slot: i64, origin: Origin, change: &Change) -> Result<(), AllocError> {
+        self.change_cell(slot, origin, change)
     }
 
     fn newest(&self) -> Option<i64> {
@@ -116,6 +92,12 @@ impl Cells for PlainArchive {
     fn entries_into(&self, slot: i64, row: &mut Vec<Entry>) -> Result<(), AllocError> {
         row.clear();
         row.extend_from_slice(self.row(slot))
+    }
+
+    fn cells_into(&self, slot: i64, run: &mut Vec<(i64, Entry)>) -> Result<u32, AllocError> {
+        run.clear();
+        push_cells(run, slot, self.row(slot))?;
+        Ok(1)
     }
 
     fn cell_count(&self) -> usize {

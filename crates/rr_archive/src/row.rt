@@ -1,5 +1,5 @@
 //! The entries of one row, ascending by origin.
-ghost use Rattle.std.specs.Prelude.{◌≡◌, is_none, IfOk};
+ghost use Rattle.std.specs.Prelude.{◌≡◌, ◌++◌, map, is_none, IfOk, OnOk};
 ghost use Rattle.std.specs.List.{find, position_from};
 ghost use Rattle.rr_archive.specs.Row.{entry_at, is_from, is_after};
 ghost use Rattle.rr_archive.specs.Changes.{Fits, entry_after};
@@ -27,7 +27,8 @@ fn entry_at(row: &[Entry], origin: Origin) -> Option<Contribution>
         .map(|entry| entry.contribution)
 }
 
-fn is_after(entry: &Entry, is_later: bool, origin: Origin) -> bool
+/// Whether an entry is of a later slot than an origin's, or after the origin in its own.
+pub fn is_after(entry: &Entry, is_later: bool, origin: Origin) -> bool
     ensures { result ≡ is_after is_later origin entry.now }
 {
     is_later || origin < entry.origin
@@ -40,6 +41,17 @@ pub fn first_after(row: &[Entry], is_later: bool, origin: Origin) -> Option<Entr
     row.iter()
         .find(|entry| is_after(entry, is_later, origin))
         .copied()
+}
+
+/// Adds the entries of a row to a list of cells, each with its slot.
+pub fn push_cells(cells: &mut Vec<(i64, Entry)>, slot: i64, row: &[Entry]) -> Result<(), AllocError>
+    ensures { OnOk result
+        (cells.new.items ≡ cells.old.items ++ map (λ e. (slot, e)) row.now) }
+{
+    for entry in row {
+        cells.push((slot, *entry))?;
+    }
+    Ok(())
 }
 
 /// Sets the entry of an origin.

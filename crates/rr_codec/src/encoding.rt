@@ -1,6 +1,7 @@
 //! Packed cells, written.
-ghost use Rattle.std.specs.Prelude.{◌≡◌, ℕ, ◌<◌, ◌≤◌, ◌+◌, ◌*◌, ◌^◌, ◌++◌, IfOk, OnOk, length};
+ghost use Rattle.std.specs.Prelude.{◌≡◌, ℕ, ◌<◌, ◌≤◌, ◌+◌, ◌*◌, ◌^◌, ◌++◌, [], IfOk, OnOk, Ok, length};
 ghost use Rattle.rr_codec.specs.Fields.{IsTyped, fields_of};
+ghost use Rattle.rr_codec.specs.Reading.{packed_at};
 ghost use Rattle.rr_codec.specs.Text.{cell_text, next_known, packed_text};
 
 use crate::fields::fields_of;
@@ -52,6 +53,7 @@ fn push_cell(bytes: &mut Vec<u8>, known: &mut Known, cell: &(i64, Entry)) -> Res
 /// its place.
 pub fn encode(alloc: Global, cells: &[(i64, Entry)]) -> Result<Vec<u8>, AllocError>
     requires { length cells.now < 2 ^ 32 }
+    ensures read { IfOk result (λ bytes. packed_at bytes.items ≡ Ok (cells.now, [])) }
     ensures text { IfOk result (λ bytes. (span : ℕ) × (span < 2 ^ 128)
         × (bytes.items ≡ packed_text span cells.now)) }
     ensures size { IfOk result (λ bytes. length bytes.items ≤ 24 + 123 * length cells.now) }

@@ -9,7 +9,7 @@ ghost use Rattle.rr_delta.specs.Listed.{ListsCells};
 use crate::name::Name;
 use rr_archive::Cells;
 use rr_cells::{Cell, CellRef};
-use rr_replica::Replica;
+use rr_replica::{CellWalk, Replica};
 use std::alloc::{AllocError, Global};
 
 /// The names without those at the beginning that are before a cell's.
@@ -72,7 +72,7 @@ fn push_newer(
 /// of their names. The names of the summary strictly ascend.
 ///
 /// The replica and the summary are walked along side by side: the cost is that of
-/// `Replica::next_cell` for each cell, and linear in the summary.
+/// `CellWalk::next_cell` for each cell, and linear in the summary.
 pub fn difference<A: Cells>(
     alloc: Global,
     replica: &Replica<A>,
@@ -86,11 +86,12 @@ pub fn difference<A: Cells>(
     let _schema = replica.schema();
     let mut cells = Vec::new(alloc);
     let mut names = summary;
+    let mut walk = CellWalk::new(alloc, replica);
     let mut next = replica.cell_at(0);
     while let Some(cell) = next {
         names = names_from(names, &cell);
         push_newer(&mut cells, &cell, first_version(names, &cell))?;
-        next = replica.next_cell(cell.key, cell.archive, cell.slot, cell.origin);
+        next = walk.next_cell(cell.key, cell.archive, cell.slot, cell.origin);
     }
     Ok(cells)
 }

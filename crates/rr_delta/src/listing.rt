@@ -9,10 +9,11 @@ ghost use Rattle.rr_delta.specs.Summaries.{cells_after, cells_from};
 use crate::name::Name;
 use rr_archive::Cells;
 use rr_cells::CellRef;
-use rr_replica::Replica;
+use rr_replica::{CellWalk, Replica};
 use std::alloc::{AllocError, Global};
 
-/// The names and versions of as many cells as `count` from one on; fewer where there are fewer.
+/// The names and versions of as many cells as `count` from one on; fewer where there are fewer. The
+/// cost is that of `CellWalk::next_cell` for each of them.
 fn listed_from<'a, A: Cells>(
     alloc: Global,
     replica: &'a Replica<A>,
@@ -24,6 +25,7 @@ fn listed_from<'a, A: Cells>(
         (entries replica.now.cells)))) }
 {
     let mut names = Vec::new(alloc);
+    let mut walk = CellWalk::new(alloc, replica);
     let mut next = Some(CellRef {
         key: first.key,
         archive: first.archive,
@@ -36,7 +38,7 @@ fn listed_from<'a, A: Cells>(
             return Ok(names);
         };
         names.push(Name::of(&cell)?)?;
-        next = replica.next_cell(cell.key, cell.archive, cell.slot, cell.origin);
+        next = walk.next_cell(cell.key, cell.archive, cell.slot, cell.origin);
     }
     Ok(names)
 }
@@ -45,7 +47,7 @@ fn listed_from<'a, A: Cells>(
 /// fewer where there are fewer.
 ///
 /// The cost is that of `Replica::cell_at` for the first, and for each further one that of
-/// `Replica::next_cell`.
+/// `CellWalk::next_cell`.
 pub fn summary<A: Cells>(
     alloc: Global,
     replica: &Replica<A>,
@@ -67,7 +69,8 @@ pub fn summary<A: Cells>(
 /// as many as `count`, in the order of the names; fewer where there are fewer. No cell needs to be
 /// at the name.
 ///
-/// The cost is that of `Replica::next_cell` for each of them.
+/// The cost is that of `Replica::next_cell` for the first, and for each further one that of
+/// `CellWalk::next_cell`.
 pub fn summary_after<A: Cells>(
     alloc: Global,
     replica: &Replica<A>,

@@ -13,4 +13,4 @@ pub mod RecordLemmas
 pub mod RowNames
 pub mod RowLaws
 pub mod OneEntry
-pub mod RowsOfArchive
+pub mod LentRowsLemmas

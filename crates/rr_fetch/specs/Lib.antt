@@ -4,5 +4,6 @@ pub mod Requests
 pub mod Records
 pub mod Consolidation
 pub mod Answers
+pub mod LentRows
 pub mod Laws
 pub mod Digits

@@ -1,12 +1,12 @@
 //! What a replica answers to a request.
 
-ghost use Rattle.std.specs.Prelude.{◌≡◌, ◌*◌, ◌<◌, ◌≤◌, ◌+◌, ◌-◌, ◌^◌, min, ◌+ℤ◌, ◌*ℤ◌, pos, unsigned_abs, [], ◌∷◌, length, Err, IfOk, IfSome, OnOk, MatchOption};
-ghost use Rattle.std.specs.FinMap.{empty};
+ghost use Rattle.std.specs.Prelude.{◌≡◌, ◌*◌, ◌<◌, ◌≤◌, ◌+◌, ◌-◌, ◌^◌, min, ◌+ℤ◌, ◌*ℤ◌, pos, unsigned_abs, [], ◌∷◌, length, map, Err, IfOk, IfSome, OnOk};
 ghost use Rattle.std.specs.Vec.{vec_capacity};
 ghost use Rattle.rr_io.specs.Stream.{HasFailed, KeepsFailures, WritesPrefix, WritesWhole};
-ghost use Rattle.rr_archive.specs.Cells.{ArchiveCells, row_of};
+ghost use Rattle.rr_archive.specs.Cells.{row_of};
 ghost use Rattle.rr_fetch.specs.Answers.{cells_text};
 ghost use Rattle.rr_fetch.specs.Consolidation.{consolidation_of, IsRow};
+ghost use Rattle.rr_fetch.specs.LentRows.{lent_cells};
 ghost use Rattle.rr_fetch.specs.Requests.{request_view, IsFetchable};
 ghost use Rattle.rr_fetch.specs.declared.record.TheConstants.{MAX_REST};
 
@@ -15,6 +15,7 @@ use crate::fault::AnswerFault;
 use crate::plain::prefix_of;
 use crate::record::{MAX_REST, push_row};
 use crate::request::Request;
+use crate::rows::Rows;
 use rr_archive::{Cells, Entry};
 use rr_io::Counted;
 use rr_io::stream::write_all;
@@ -43,61 +44,50 @@ fn start_of(slot: i64, span: u32) -> i64
     slot * i64::from(span)
 }
 
-/// Writes the entries of a slot over those of a row. Without an archive the slot has none.
-fn read_row<A: Cells>(
-    archive: Option<&A>,
-    slot: i64,
-    row: &mut Vec<Entry>,
-) -> Result<(), AllocError>
-    ensures { (rows : ArchiveCells) → MatchOption archive.entry (rows ≡ empty)
-        (λ a. A.cells a.now ≡ rows)
-        → OnOk result (row.new.items ≡ row_of rows slot) }
+/// The entry of a cell, if there is no other.
+fn lone_entry(cells: &[(i64, Entry)]) -> Option<&Entry>
+    ensures { IfSome result (λ entry. map (λ c. c.1) cells.now ≡ entry.now ∷ []) }
 {
-    match archive {
-        Some(archive) => archive.entries_into(slot, row),
-        None => {
-            row.clear();
-            Ok(())
-        }
+    match cells {
+        [(_, entry)] => Some(entry),
+        _ => None,
     }
 }
 
-/// The entry of a slot that has no other, where it is found at once, and where to look for that of
-/// the next slot.
-fn lone_entry<A: Cells>(archive: Option<&A>, slot: i64, near: usize) -> Option<(Entry, usize)>
-    ensures { (rows : ArchiveCells) → MatchOption archive.entry (rows ≡ empty)
-        (λ a. A.cells a.now ≡ rows) → IfSome result (λ found. row_of rows slot ≡ found.0 ∷ []) }
+/// Writes the entries of cells over those of a row.
+fn copy_entries(cells: &[(i64, Entry)], entries: &mut Vec<Entry>) -> Result<(), AllocError>
+    ensures { OnOk result (entries.new.items ≡ map (λ c. c.1) cells.now) }
 {
-    match archive {
-        Some(archive) => archive.lone_entry(slot, near),
-        None => None,
+    entries.clear();
+    for (_, entry) in cells {
+        entries.push(*entry)?;
     }
+    Ok(())
 }
 
-/// What the request's function makes of a slot, and where to look for the entry of the next one.
-/// The entries are written over those of a row, unless there is one alone that is found at once.
+/// What the request's function makes of a slot. The entries are written over those of a row, unless
+/// there is one alone.
 fn value_at<A: Cells>(
-    archive: Option<&A>,
+    rows: &mut Rows<'_, A>,
     slot: i64,
-    near: usize,
-    row: &mut Vec<Entry>,
+    entries: &mut Vec<Entry>,
     schema: &Schema,
     request: &Request,
-) -> Result<(Option<i64>, usize), AllocError>
+) -> Result<Option<i64>, AllocError>
     requires archive_exists { request.now.archive < length schema.now.archives }
-    requires row { (rows : ArchiveCells) → MatchOption archive (rows ≡ empty)
-        (λ a. A.cells a.now ≡ rows) → IsRow (row_of rows slot) }
-    ensures { (rows : ArchiveCells) → MatchOption archive.entry (rows ≡ empty)
-        (λ a. A.cells a.now ≡ rows) → IfOk result (λ found. found.0
-        ≡ consolidation_of schema.now request.now.archive request.now.cf (row_of rows slot)) }
+    requires slot_near { unsigned_abs slot ≤ MAX_SECOND + MAX_FETCH_ROWS }
+    requires row { IsRow (row_of (lent_cells (λ a. A.cells a.now) rows.old.archive) slot) }
+    ensures archive { rows.new.archive ≡ rows.old.archive }
+    ensures value { IfOk result (λ value. value ≡ consolidation_of schema.now request.now.archive
+        request.now.cf (row_of (lent_cells (λ a. A.cells a.now) rows.old.archive) slot)) }
 {
-    if let Some((entry, next)) = lone_entry(archive, slot, near) {
-        let value = consolidate_one(&entry, schema, request.archive, request.cf);
-        return Ok((value, next));
+    rows.read(slot)?;
+    if let Some(entry) = lone_entry(rows.cells()) {
+        let value = consolidate_one(entry, schema, request.archive, request.cf);
+        return Ok(value);
     }
-    read_row(archive, slot, row)?;
-    let value = consolidate(row, schema, request.archive, request.cf);
-    Ok((value, near))
+    copy_entries(rows.cells(), entries)?;
+    Ok(consolidate(entries, schema, request.archive, request.cf))
 }
 
 /// An empty text with room for as many rows, of the longest records behind what each begins with,
@@ -116,9 +106,9 @@ fn text_for(alloc: Global, prefix: &[u8], rows: u32) -> Result<Vec<u8>, AllocErr
 ///
 /// The request's archive is one of the replica's schema, its first slot is at most
 /// [`MAX_SECOND`] either side of the epoch, and its rows are from 1 to [`MAX_FETCH_ROWS`]. The cost
-/// is one look-up of the key and, for each row, a pass over its entries and a look-up of its slot,
-/// which an archive may spare where it follows the slot before. Memory is taken at once for the
-/// longest records that the rows can have.
+/// is one look-up of the key, for each run of slots that the archive reads at once a look-up of its
+/// first slot, and for each row a pass over its entries. Memory is taken at once for the longest
+/// records that the rows can have, and for the longest run.
 pub fn answer_text<A: Cells>(
     alloc: Global,
     replica: &Replica<A>,
@@ -134,14 +124,13 @@ pub fn answer_text<A: Cells>(
     let prefix = prefix_of(alloc, request.key.text())?;
     let mut text = text_for(alloc, &prefix, request.rows)?;
     let mut rest = [0; MAX_REST];
+    let mut rows = Rows::new(alloc, archive);
     let mut entries = Vec::new(alloc);
-    let mut near = 0;
     for row in 0..request.rows {
         let slot = slot_of(request.first, row);
         let start = start_of(slot, span);
-        let (value, next) = value_at(archive, slot, near, &mut entries, schema, request)?;
+        let value = value_at(&mut rows, slot, &mut entries, schema, request)?;
         push_row(&mut text, &mut rest, &prefix, start, value)?;
-        near = next;
     }
     Ok(text)
 }

@@ -28,6 +28,7 @@ pub mod laws;
 mod plain;
 mod record;
 mod request;
+mod rows;
 mod sum;
 mod words;
 

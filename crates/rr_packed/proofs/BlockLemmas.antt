@@ -1,5 +1,5 @@
 -- What a block stores of each row, as its parts change.
-use Rattle.std.proofs.Common.{◌++◌, ◌+◌, get_or, take, arith, ◌≡◌, ℕ, ◌<◌, true, false, cond, eqb, ◌&&◌, List, [], ◌∷◌, length, map, set, Result, OnOk, refl, sym, ap, ◌∙◌, subst, ◌⊎◌, ⊎_elim, Option, Some, None, is_some, is_none, IsTrue, true≢false}
+use Rattle.std.proofs.Common.{◌≡◌, ℕ, ◌<◌, true, false, cond, eqb, ◌&&◌, List, [], ◌∷◌, length, map, set, Result, OnOk, refl, sym, ap, ◌∙◌, subst, ◌⊎◌, ⊎_elim, Option, Some, None, is_some, is_none, IsTrue, true≢false}
 use Rattle.std.proofs.lemmas.Bool.{eqb-true, and_parts, and_from}
 use Rattle.rr_archive.specs.declared.entry.Entry.{Entry}
 use Rattle.rr_archive.specs.declared.entries.Entries.{Entries}
@@ -9,7 +9,7 @@ use Rattle.rr_packed.specs.declared.lone_sample.LoneSample.{LoneSample}
 use Rattle.rr_packed.specs.declared.lone_sample.Source.{Source}
 use Rattle.std.specs.Prelude.{slice_get}
 use Rattle.std.specs.Option.{option_map, option_and_then}
-use Rattle.std.proofs.lemmas.List.{length-map, take_more, map-append}
+use Rattle.std.proofs.lemmas.List.{length-map}
 use Rattle.std.proofs.lemmas.Result.{on_ok_weaker}
 use Rattle.std.proofs.lemmas.Option.{slice_get_within, slice_get-map}
 use Rattle.rr_packed.specs.Sparse.{item_at, item_in, place_at, IsItemSet}
@@ -254,22 +254,6 @@ block_copied old new source mask samples rows_mask rows = λ i n. (
     ∙ sym (item_map old.rows.mask old.rows.items.items n)) j)
     (entries_read (source j) (item_at (mask j) (samples j) n)))
     ∙ sym (items_held-alike (item_in old.rows n) (entries_read old.source (item_in old.samples n)))) i
-
--- one row more that has the same entries
-pub same_more : (xs ys : List Entries) (i : ℕ) (x y : Entries) → i < length xs → length xs ≡ length ys
-    → x ≡ get_or xs i x
-    → y ≡ get_or ys i y → items_of x ≡ items_of y → map items_of (take i xs) ≡ map items_of (take i ys)
-    → map items_of (take (i + 1) xs) ≡ map items_of (take (i + 1) ys)
-same_more xs ys i x y within len is its same before =
-    one_more xs i x within is
-    ∙ (λ j. before j ++ same j ∷ [])
-    ∙ sym (one_more ys i y (omega arith) its)
-  where
-    one_more : (zs : List Entries) (i : ℕ) (z : Entries) → i < length zs → z ≡ get_or zs i z
-        → map items_of (take (i + 1) zs) ≡ map items_of (take i zs) ++ items_of z ∷ []
-    one_more zs i z h e =
-        ap (map items_of) (take_more zs i z h ∙ ap (λ w. take i zs ++ w ∷ []) (sym e))
-        ∙ map-append items_of (take i zs) (z ∷ [])
 
 pub same_length : (xs ys : List Entries) → map items_of xs ≡ map items_of ys → length xs ≡ length ys
 same_length xs ys e = sym (length-map xs items_of) ∙ ap length e ∙ length-map ys items_of

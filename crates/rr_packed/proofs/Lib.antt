@@ -6,3 +6,12 @@ pub mod NumberLemmas
 pub mod BlocksLemmas
 pub mod PackedLemmas
 pub mod CountLemmas
+pub mod RowCellLemmas
+pub mod CellsLeftLemmas
+pub mod RowMoves
+pub mod RowCounts
+pub mod PackingLemmas
+pub mod FreeRowLemmas
+pub mod RowAppends
+pub mod RunLemmas
+pub mod CellLemmas

@@ -17,6 +17,7 @@ use Rattle.rr_packed.specs.declared.held_block.HeldBlock.TheVariants.{Own, Share
 use Rattle.rr_packed.specs.Sparse.{item_in, place_at}
 use Rattle.rr_packed.specs.Sparse.{has_room as has_spare}
 use Rattle.rr_packed.specs.LoneSamples.{entries_read}
+use Rattle.rr_packed.specs.PackedRows.{items_packed}
 use Rattle.rr_packed.specs.Slots.{block_of, row_of}
 
 -- how many entries the first `n` of the rows have in all
@@ -71,17 +72,17 @@ IsRowSet number es old new = (n : ℕ) → new n ≡ (if n == number then es els
 -- ---- in one block that may be shared
 
 abbrev pub stored_in : HeldBlock → ℕ → List Entry
-stored_in (Own b) = items_in b
-stored_in (Shared b) = items_in b.value
+stored_in (Own b) = items_in b.value
+stored_in (Shared p) = items_packed p.value.bytes.items
 
 -- whether others may have it too
 abbrev pub is_shared : HeldBlock → Bool
 is_shared (Own b) = false
 is_shared (Shared b) = true
 
--- whether the entry of an origin takes no memory: a shared block is copied first
+-- whether the entry of an origin takes no memory: a shared block is unpacked first
 abbrev pub has_room_held : HeldBlock → ℕ → ℕ → Bool
-has_room_held (Own b) number origin = has_room_in b number origin
+has_room_held (Own b) number origin = has_room_in b.value number origin
 has_room_held (Shared b) number origin = false
 
 -- ---- in all blocks, by slot

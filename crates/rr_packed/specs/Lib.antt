@@ -1,5 +1,6 @@
 pub mod Slots
 pub mod Sparse
 pub mod LoneSamples
+pub mod PackedRows
 pub mod Blocks
 pub mod PackedCells

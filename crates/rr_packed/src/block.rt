@@ -1,22 +1,27 @@
 //! The rows of 64 slots that follow one another.
-ghost use Rattle.std.specs.Prelude.{◌≡◌, ◌+◌, ◌-◌, ◌&&◌, ℕ, None, Some, is_some, [], ◌∷◌, map, IfOk, IfSome, IsTrue};
+ghost use Rattle.std.specs.Prelude.{◌≡◌, ◌+◌, ◌-◌, ◌++◌, ◌≤ℤ◌, ◌&&◌, ℕ, pos, None, Some, is_some, [], ◌∷◌, IfOk, IfSome, IsTrue, OnOk};
+ghost use Rattle.std.specs.Int.{bit_at};
+ghost use Rattle.rr_text.specs.declared.limits.TheConstants.{MAX_SECOND};
 ghost use Rattle.rr_archive.specs.Row.{entry_at, with_entry};
 ghost use Rattle.rr_archive.specs.Changes.{Fits, entry_after};
-ghost use Rattle.rr_archive.specs.Entries.{items_of};
 ghost use Rattle.rr_archive.specs.Stored.{ChangesStored, MakesRoom, PassesOver};
 ghost use Rattle.rr_packed.specs.Sparse.{place_at, item_in};
 ghost use Rattle.rr_packed.specs.Sparse.{has_room as has_spare};
 ghost use Rattle.rr_packed.specs.LoneSamples.{entries_of, entries_read};
 ghost use Rattle.rr_packed.specs.Blocks.{items_in, has_room_in, entries_in_all, IsRowSet, IsUnheld, SetsSource, Unpacks};
+ghost use Rattle.rr_packed.specs.PackedRows.{cells_of_rows};
 
-use crate::lone_sample::{LoneSample, Source, are_same_samples, is_same_source};
-use crate::mask::ones_on;
+mod appending;
+
+use crate::lone_sample::{LoneSample, Source};
+use crate::mask::{next_on, ones_on};
 use crate::row::Row;
 use crate::row_number::{RowNumber, RowRange};
 use crate::sparse::Sparse;
 use rr_archive::Entry;
 use rr_archive::change::Change;
 use rr_archive::entries::{Entries, first_entry};
+use rr_archive::row::push_cells;
 use rr_schema::Origin;
 use std::alloc::{AllocError, Global};
 
@@ -35,28 +40,6 @@ pub(crate) struct Block {
     source: Option<Source>,
     samples: Sparse<LoneSample>,
     rows: Sparse<Entries>,
-}
-
-/// Whether a row has the same entries as another.
-fn is_same_row(row: &Entries, other: &Entries) -> bool
-    ensures { IsTrue result → items_of row.now ≡ items_of other.now }
-{
-    row.as_slice() == other.as_slice()
-}
-
-/// Whether rows have the same entries as others.
-fn have_same_entries(rows: &[Entries], others: &[Entries]) -> bool
-    ensures { IsTrue result → map items_of rows.now ≡ map items_of others.now }
-{
-    if rows.len() != others.len() {
-        return false;
-    }
-    for i in 0..rows.len() {
-        if !is_same_row(&rows[i], &others[i]) {
-            return false;
-        }
-    }
-    true
 }
 
 impl Block {
@@ -101,17 +84,40 @@ impl Block {
         }
     }
 
+    /// A mask with a bit for each row that has an entry.
+    pub(crate) fn mask(&self) -> u64
+        ensures { (number : ℕ) → bit_at result number ≡ 0 → items_in self.now number ≡ [] }
+    {
+        self.samples.mask | self.rows.mask
+    }
+
+    /// Adds the cells of the rows from one on to a list, those of the slots from one on.
+    pub(crate) fn cells_into(
+        &self,
+        first: RowNumber,
+        slot: i64,
+        run: &mut Vec<(i64, Entry)>,
+    ) -> Result<(), AllocError>
+        requires { slot ≤ℤ pos MAX_SECOND }
+        ensures { OnOk result (run.new.items ≡ run.old.items
+            ++ cells_of_rows (λ i. items_in self.now (first.value + i)) slot (64 - first.value)) }
+    {
+        for i in 0..BLOCK_ROWS - first.value {
+            let row = self.row(RowNumber {
+                value: first.value + i,
+            });
+            push_cells(run, slot + i64::from(i), row.as_slice())?;
+        }
+        Ok(())
+    }
+
     /// How many numbers on from one the next is that has a row, or the block ends: those between
     /// have no entry.
     pub(crate) fn rows_on(&self, number: RowNumber) -> u32
         ensures { PassesOver 1 (64 - number.value) (λ i. items_in self.now (number.value + i))
             result }
     {
-        let rest = (self.samples.mask | self.rows.mask) >> number.value >> 1;
-        if rest == 0 {
-            return 64 - number.value;
-        }
-        1 + rest.trailing_zeros()
+        next_on(self.mask(), number)
     }
 
     /// How many entries some rows have in all. Those that are held as samples are counted at once,
@@ -275,17 +281,6 @@ impl Block {
     {
         self.samples.shrink();
         self.rows.shrink();
-    }
-
-    /// Whether another block has the same rows, held in the same way.
-    pub(crate) fn is_same(&self, other: &Block) -> bool
-        ensures { IsTrue result → items_in self.now ≡ items_in other.now }
-    {
-        self.samples.mask == other.samples.mask
-            && self.rows.mask == other.rows.mask
-            && is_same_source(&self.source, &other.source)
-            && are_same_samples(&self.samples.items, &other.samples.items)
-            && have_same_entries(&self.rows.items, &other.rows.items)
     }
 
     /// The same rows, in no more memory than they need.

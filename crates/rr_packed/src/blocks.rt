@@ -1,5 +1,5 @@
 //! The blocks of an archive, in order of their numbers.
-ghost use Rattle.std.specs.Prelude.{◌≡◌, ◌<◌, ◌≤◌, ◌+ℤ◌, ◌⊎◌, ◌↔◌, ◌++◌, ℕ, ℤ, pos, None, [], ◌∷◌, drop, length, map, int_lt, slice_index_or, IfOk, IfErr, IfSome, IsSome, IsTrue, false, IsOk, OnOk, OnErr, is_some};
+ghost use Rattle.std.specs.Prelude.{◌≡◌, ◌<◌, ◌⊎◌, ◌↔◌, ◌++◌, ℤ, None, [], drop, length, int_lt, slice_index_or, IfOk, IfErr, IfSome, IsSome, IsTrue, false, IsOk, OnOk, OnErr, is_some};
 ghost use Rattle.std.proofs.Props.{props};
 ghost use Rattle.std.specs.List.Sorted.{IsStrictlySortedBy};
 ghost use Rattle.std.specs.Map.{keys_of};
@@ -9,9 +9,7 @@ ghost use Rattle.std.specs.VecDeque.{deque_len, deque_capacity};
 ghost use Rattle.rr_packed.specs.Slots.{block_of, row_of, begins_before};
 
 use crate::held_block::HeldBlock;
-use crate::row::Row;
 use crate::row_number::RowNumber;
-use rr_archive::Entry;
 use rr_archive::change::Change;
 use rr_schema::Origin;
 use std::alloc::{AllocError, Global};
@@ -60,7 +58,6 @@ impl Blocks {
     ghost use Rattle.rr_archive.specs.Row.{entry_at};
     ghost use Rattle.rr_archive.specs.Changes.{Fits, entry_after};
     ghost use Rattle.rr_archive.specs.Stored.{ChangesStored, MakesRoom};
-    ghost use Rattle.rr_packed.specs.LoneSamples.{entries_of};
     ghost use Rattle.rr_packed.specs.Blocks.{all_blocks, block_at, count_before, row_at, has_room_at, starts_before, IsPlaceOf, IsGapFor, IsBlockSet, IsSlotSet};
 
     /// No blocks. It takes no memory yet.
@@ -189,51 +186,6 @@ impl Blocks {
         }
     }
 
-    /// The entries that are stored of a slot.
-    pub(crate) fn row(&self, slot: i64) -> Row<'_>
-        ensures { entries_of result ≡ row_at self.now slot }
-    {
-        let number = block_of(slot);
-        match self.get(number) {
-            Some(block) => block.row(row_of(slot)),
-            None => Row::Lent(&[]),
-        }
-    }
-
-    /// Where the block of a number is, if it is there. A place where it is likely to be is looked
-    /// at first.
-    fn find_near(&self, number: i64, near: usize) -> Option<usize>
-        ensures { IfSome result (IsPlaceOf number (all_blocks self.now)) }
-    {
-        if self.is_at(number, near) {
-            return Some(near);
-        }
-        self.find(number).ok()
-    }
-
-    /// Whether the block of a number is at a place.
-    fn is_at(&self, number: i64, at: usize) -> bool
-        ensures { IsTrue result → IsPlaceOf number (all_blocks self.now) at }
-    {
-        match self.nth(at) {
-            Some((other, _)) => *other == number,
-            None => false,
-        }
-    }
-
-    /// The entry that is stored of a slot, if it is one that is held as a lone sample, and the
-    /// place of its block. The block is looked for at a place first.
-    pub(crate) fn lone_entry(&self, slot: i64, near: usize) -> Option<(Entry, usize)>
-        ensures { IfSome result (λ found. row_at self.now slot ≡ found.0 ∷ []) }
-    {
-        let at = self.find_near(block_of(slot), near)?;
-        let (_, block) = self.nth(at)?;
-        match block.row(row_of(slot)) {
-            Row::Made(entry) => Some((entry, at)),
-            Row::Lent(_) => None,
-        }
-    }
-
     /// Where the block of a slot is. One without an entry is added, if there is none.
     #[inline(always)]
     fn place_of(&mut self, slot: i64) -> Result<usize, AllocError>
@@ -248,7 +200,8 @@ impl Blocks {
         match self.find(number) {
             Ok(at) => Ok(at),
             Err(at) => {
-                self.insert(at, number, HeldBlock::new(self.alloc))?;
+                let block = HeldBlock::new(self.alloc)?;
+                self.insert(at, number, block)?;
                 Ok(at)
             }
         }

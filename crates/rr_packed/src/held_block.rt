@@ -1,82 +1,82 @@
-//! A block that one archive has, or that several share.
-ghost use Rattle.std.specs.Prelude.{◌≡◌, ◌+◌, ◌-◌, ℕ, [], IfOk, IsTrue};
-ghost use Rattle.rr_archive.specs.Row.{entry_at, with_entry};
+//! A block that one archive has, or a finished one that several may share.
+ghost use Rattle.std.specs.Prelude.{◌≡◌, ◌+◌, ◌-◌, ◌++◌, ◌≤◌, ◌≤ℤ◌, ℕ, pos, [], length, slice_get, vec_capacity, IfOk, IfSome, IsOk, IsTrue, OnOk};
+ghost use Rattle.std.specs.List.{find};
+ghost use Rattle.rr_text.specs.declared.limits.TheConstants.{MAX_SECOND};
+ghost use Rattle.rr_archive.specs.Row.{entry_at, is_after, with_entry};
 ghost use Rattle.rr_archive.specs.Changes.{Fits, entry_after};
 ghost use Rattle.rr_archive.specs.Stored.{ChangesStored, MakesRoom, PassesOver};
-ghost use Rattle.rr_packed.specs.LoneSamples.{entries_of};
 ghost use Rattle.rr_packed.specs.Blocks.{items_in, has_room_in, stored_in, has_room_held, entries_in_all, is_shared, IsRowSet};
+ghost use Rattle.rr_packed.specs.PackedRows.{cells_of_rows, items_packed};
 
 use crate::block::Block;
-use crate::row::Row;
+use crate::packed_rows::PackedRows;
 use crate::row_number::{RowNumber, RowRange};
+use rr_archive::Entry;
 use rr_archive::change::Change;
+use rr_archive::row::first_after;
 use rr_schema::Origin;
 use std::alloc::{AllocError, Global};
-use std::mem::replace;
 use std::sync::Arc;
 
 /// A block as an archive holds it. One that is shared never changes: an archive that has to change
-/// it takes a copy in its place.
+/// it takes the same rows in a block of its own in its place.
 #[derive(Drop)]
 pub(crate) enum HeldBlock {
     /// The archive alone has it.
-    Own(Block),
-    /// Others may have it too.
-    Shared(Arc<Block>),
+    Own(Box<Block>),
+    /// It is finished, and its rows are packed. Others may have them too.
+    Shared(Arc<PackedRows>),
 }
 
-/// A copy of a block, with room for an entry of an origin in a row.
+/// Packed rows as a block, with room for an entry of an origin in a row.
 fn copy_with_room(
-    block: &Block,
+    packed: &PackedRows,
     alloc: Global,
     number: RowNumber,
     origin: Origin,
 ) -> Result<Block, AllocError>
-    ensures same { IfOk result (λ new. items_in new ≡ items_in block.now) }
+    ensures same { IfOk result (λ new. items_in new ≡ items_packed packed.now.bytes.items) }
     ensures room { IfOk result (λ new. IsTrue (has_room_in new number.value origin)) }
 {
-    let mut own = block.copy(alloc)?;
+    let mut own = packed.unpack(alloc)?;
     own.make_room(number, origin)?;
     Ok(own)
 }
 
-/// A copy of a block, with the entry of an origin in a row changed.
+/// Packed rows as a block, with the entry of an origin in a row changed.
 fn changed_copy(
-    block: &Block,
+    packed: &PackedRows,
     alloc: Global,
     number: RowNumber,
     origin: Origin,
     change: &Change,
 ) -> Result<Block, AllocError>
-    requires { Fits (entry_at (items_in block.now number.value) origin) change.now }
+    requires { Fits (entry_at (items_packed packed.now.bytes.items number.value) origin)
+        change.now }
     ensures { IfOk result (λ new. IsRowSet number.value
-        (with_entry (items_in block.now number.value)
-        (entry_after (items_in block.now number.value) origin change.now))
-        (items_in block.now) (items_in new)) }
+        (with_entry (items_packed packed.now.bytes.items number.value)
+        (entry_after (items_packed packed.now.bytes.items number.value) origin change.now))
+        (items_packed packed.now.bytes.items) (items_in new)) }
 {
-    let mut own = block.copy(alloc)?;
+    let mut own = packed.unpack(alloc)?;
     own.change(number, origin, change)?;
     Ok(own)
 }
 
-/// A block for others to have too, and whether it is one: without memory for that it stays as it
-/// is.
-fn shared(alloc: Global, block: Block) -> (HeldBlock, bool)
-    ensures same { stored_in result.0 ≡ items_in block }
-    ensures shared { result.1 ≡ is_shared result.0 }
+/// The rows of a block, packed for others to have too; none without memory for that.
+fn shared(alloc: Global, block: &Block) -> Option<Arc<PackedRows>>
+    ensures { IfSome result (λ packed. items_packed packed.value.bytes.items ≡ items_in block.now) }
 {
-    match Arc::new(alloc, block) {
-        Ok(shared) => (HeldBlock::Shared(shared), true),
-        Err(failed) => (HeldBlock::Own(failed.value), false),
-    }
+    let packed = PackedRows::of(alloc, block)?;
+    Arc::new(alloc, packed).ok()
 }
 
 impl HeldBlock {
-    /// A block without an entry, of one archive. It takes no memory yet.
-    pub(crate) fn new(alloc: Global) -> HeldBlock
-        ensures { (number : ℕ) → stored_in result number ≡ [] }
+    /// A block without an entry, of one archive.
+    pub(crate) fn new(alloc: Global) -> Result<HeldBlock, AllocError>
+        ensures { IfOk result (λ new. (number : ℕ) → stored_in new number ≡ []) }
     {
-        HeldBlock::Own(Block::new(alloc))
+        Ok(HeldBlock::Own(Box::new(alloc, Block::new(alloc))?))
     }
 
     /// Whether others may have it too.
@@ -89,21 +89,62 @@ impl HeldBlock {
         }
     }
 
-    /// The block.
-    fn block(&self) -> &Block
-        ensures { items_in result.now ≡ stored_in self.now }
+    /// Adds the entries of a row to a list.
+    pub(crate) fn row_into(&self, number: RowNumber, row: &mut Vec<Entry>) -> Result<(), AllocError>
+        ensures added { OnOk result (row.new.items
+            ≡ row.old.items ++ stored_in self.now number.value) }
+        ensures room { length row.old.items + length (stored_in self.now number.value)
+            ≤ vec_capacity row.old → IsOk result }
     {
         match self {
-            HeldBlock::Own(block) => block,
-            HeldBlock::Shared(block) => block,
+            HeldBlock::Own(block) => row.extend_from_slice(block.row(number).as_slice()),
+            HeldBlock::Shared(packed) => packed.row_into(number, row),
         }
     }
 
-    /// The entries of a row.
-    pub(crate) fn row(&self, number: RowNumber) -> Row<'_>
-        ensures { entries_of result ≡ stored_in self.now number.value }
+    /// The first entry of a row, if it is in a later slot than an origin's, or the first after the
+    /// origin in its own.
+    pub(crate) fn first_after(
+        &self,
+        number: RowNumber,
+        is_later: bool,
+        origin: Origin,
+    ) -> Option<Entry>
+        ensures { result
+            ≡ find (is_after is_later origin) (stored_in self.now number.value) }
     {
-        self.block().row(number)
+        match self {
+            HeldBlock::Own(block) => first_after(block.row(number).as_slice(), is_later, origin),
+            HeldBlock::Shared(packed) => packed.first_after(number, is_later, origin),
+        }
+    }
+
+    /// The entry of a row by its number there, from 0.
+    pub(crate) fn nth(&self, number: RowNumber, i: usize) -> Option<Entry>
+        ensures { result ≡ slice_get (stored_in self.now number.value) i }
+    {
+        match self {
+            HeldBlock::Own(block) => block.row(number).as_slice().get(i).copied(),
+            HeldBlock::Shared(packed) => packed.nth(number, i),
+        }
+    }
+
+    /// Adds the cells of the rows from one on to a list, those of the slots from one on.
+    pub(crate) fn cells_into(
+        &self,
+        first: RowNumber,
+        slot: i64,
+        run: &mut Vec<(i64, Entry)>,
+    ) -> Result<(), AllocError>
+        requires { slot ≤ℤ pos MAX_SECOND }
+        ensures { OnOk result (run.new.items ≡ run.old.items
+            ++ cells_of_rows (λ i. stored_in self.now (first.value + i)) slot
+            (64 - first.value)) }
+    {
+        match self {
+            HeldBlock::Own(block) => block.cells_into(first, slot, run),
+            HeldBlock::Shared(packed) => packed.cells_into(first, slot, run),
+        }
     }
 
     /// As `Block::rows_on`.
@@ -111,7 +152,10 @@ impl HeldBlock {
         ensures { PassesOver 1 (64 - number.value) (λ i. stored_in self.now (number.value + i))
             result }
     {
-        self.block().rows_on(number)
+        match self {
+            HeldBlock::Own(block) => block.rows_on(number),
+            HeldBlock::Shared(packed) => packed.rows_on(number),
+        }
     }
 
     /// As `Block::entries_on`.
@@ -119,10 +163,14 @@ impl HeldBlock {
         ensures { result
             ≡ entries_in_all (λ i. stored_in self.now (rows.first.value + i)) rows.count }
     {
-        self.block().entries_on(rows)
+        match self {
+            HeldBlock::Own(block) => block.entries_on(rows),
+            HeldBlock::Shared(packed) => packed.entries_on(rows),
+        }
     }
 
-    /// Makes room for an entry of an origin in a row, in a block of this archive's own.
+    /// Makes room for an entry of an origin in a row, in a block of this archive's own. One that is
+    /// shared is unpacked first.
     #[inline(always)]
     pub(crate) fn make_room(
         &mut self,
@@ -136,15 +184,15 @@ impl HeldBlock {
     {
         match self {
             HeldBlock::Own(block) => block.make_room(number, origin),
-            HeldBlock::Shared(block) => {
-                let own = copy_with_room(block, alloc, number, origin)?;
-                *self = HeldBlock::Own(own);
+            HeldBlock::Shared(packed) => {
+                let own = copy_with_room(packed, alloc, number, origin)?;
+                *self = HeldBlock::Own(Box::new(alloc, own)?);
                 Ok(())
             }
         }
     }
 
-    /// Changes the entry of an origin in a row. A block that is shared is copied first.
+    /// Changes the entry of an origin in a row. A block that is shared is unpacked first.
     #[inline(always)]
     pub(crate) fn change(
         &mut self,
@@ -161,37 +209,39 @@ impl HeldBlock {
     {
         match self {
             HeldBlock::Own(block) => block.change(number, origin, change),
-            HeldBlock::Shared(block) => {
-                let own = changed_copy(block, alloc, number, origin, change)?;
-                *self = HeldBlock::Own(own);
+            HeldBlock::Shared(packed) => {
+                let own = changed_copy(packed, alloc, number, origin, change)?;
+                *self = HeldBlock::Own(Box::new(alloc, own)?);
                 Ok(())
             }
         }
     }
 
-    /// Makes a block of this archive alone ready to be shared, in no more memory than its lists
-    /// need. Answers whether it did; it doesn't where there is no memory for it.
+    /// Makes a block of this archive alone ready to be shared, its rows packed. Answers whether it
+    /// did; it doesn't where there is no memory for it, and then the block gives back what its
+    /// lists don't need.
     pub(crate) fn finish(&mut self, alloc: Global) -> bool
         ensures same { stored_in self.new ≡ stored_in self.old }
         ensures shared { IsTrue result → IsTrue (is_shared self.new) }
     {
-        match replace(self, HeldBlock::new(alloc)) {
-            HeldBlock::Own(mut block) => {
-                block.shrink();
-                let (held, is_shared) = shared(alloc, block);
-                *self = held;
-                is_shared
+        let HeldBlock::Own(block) = self else {
+            return false;
+        };
+        match shared(alloc, block) {
+            Some(packed) => {
+                *self = HeldBlock::Shared(packed);
+                true
             }
-            held => {
-                *self = held;
+            None => {
+                block.shrink();
                 false
             }
         }
     }
 
-    /// Shares the block of another archive in place of the own one, if both hold the same rows.
-    /// Answers whether it did.
-    pub(crate) fn share(&mut self, other: &HeldBlock) -> bool
+    /// Shares the block of another archive in place of the own one, if both hold the same rows:
+    /// packs the own one, and compares the bytes. Answers whether it did.
+    pub(crate) fn share(&mut self, alloc: Global, other: &HeldBlock) -> bool
         ensures same { stored_in self.new ≡ stored_in self.old }
         ensures shared { IsTrue result → IsTrue (is_shared self.new) }
     {
@@ -201,7 +251,10 @@ impl HeldBlock {
         let HeldBlock::Shared(shared) = other else {
             return false;
         };
-        if !own.is_same(shared) {
+        let Some(packed) = PackedRows::of(alloc, own) else {
+            return false;
+        };
+        if !packed.is_same(shared) {
             return false;
         }
         let Ok(further) = Arc::try_clone(shared) else {
@@ -217,8 +270,8 @@ impl HeldBlock {
         ensures shared { IfOk result (λ new. is_shared new ≡ is_shared self.now) }
     {
         match self {
-            HeldBlock::Own(block) => Ok(HeldBlock::Own(block.copy(alloc)?)),
-            HeldBlock::Shared(block) => Ok(HeldBlock::Shared(Arc::try_clone(block)?)),
+            HeldBlock::Own(block) => Ok(HeldBlock::Own(Box::new(alloc, block.copy(alloc)?)?)),
+            HeldBlock::Shared(packed) => Ok(HeldBlock::Shared(Arc::try_clone(packed)?)),
         }
     }
 }

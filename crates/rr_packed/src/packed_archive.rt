@@ -10,36 +10,43 @@ ghost use Rattle.rr_packed.specs.PackedCells.{HasNonePast, IsArchiveState, cells
 use crate::blocks::Blocks;
 use rr_archive::change::Change;
 use rr_archive::live_slots::{first_live, is_live, later, rows_before};
-use rr_archive::row::first_after;
-use rr_archive::{Cells, Entry, NewSample};
-use rr_contrib::Contribution;
+use rr_archive::{Cells, Entry};
 use rr_schema::Origin;
 use std::alloc::{AllocError, Global};
 
-/// The cells of one archive of one series, packed: 24 bytes for a row of one sample, and none for a
-/// row that no sample came to. 64 rows that follow one another are a block, which takes 88 bytes
-/// beside them. The newest block is held in place: a series with few rows takes no list of blocks.
-/// That of the older ones takes memory for 1, 2, 4, 8 .. blocks, that of a block's rows for 1, 4,
-/// 16, 64.
+/// The cells of one archive of one series, packed. 64 rows that follow one another are a block,
+/// which is the archive's own, or finished.
+///
+/// An own block takes 24 bytes for a row of one sample, and none for a row that no sample came to.
+/// The list of its rows takes memory for 1, 4, 16, 64. A finished block is held as the bytes of its
+/// cells, as `rr_codec` packs them. Either takes 88 bytes beside that, a finished one a few words
+/// more. The newest block is held in place: a series with few rows takes no list of blocks. That of
+/// the older ones takes memory for 1, 2, 4, 8 .. blocks.
 ///
 /// `ready`, `put` and `join_cell` find the newest block in one step, and another in a time that is
 /// logarithmic in the blocks; they are linear in the entries of the row, in the rows of its block
 /// that are after it, and in the blocks that are past the horizon then. One that makes a block of
-/// an earlier slot moves the blocks before it, or those after it if these are fewer.
+/// an earlier slot moves the blocks before it, or those after it if these are fewer. One that is of
+/// a finished block unpacks it: that is linear in its cells, and the block is the archive's own
+/// from then on.
 ///
 /// `ready` makes room for a row of either kind, and `put` and `join_cell` give back what was made
 /// for entries where a block has none. A row of one sample that is to be changed is held as its
 /// entries from then on, 112 bytes for the first of them.
 ///
-/// `share_rows` looks at the block before the newest, and gives back the memory that its lists
-/// don't need; with another archive it compares the block with that one's. It goes on with the
-/// blocks before it until one was shared. A change of a shared block copies it first.
+/// `share_rows` packs the block before the newest. With another archive it then compares the bytes
+/// with those of that one's block, and takes these in place of its own where they are the same. It
+/// goes on with the blocks before it, up to one that was finished already or can't be. A block that
+/// there is no memory to pack gives back what its lists don't need.
 ///
-/// `entries_into` finds its block as `put` does. `cell_count` finds each block between the first
-/// and the last, there or not, and is linear in these and in the rows that are held as their
-/// entries. `cell_at` is linear in the rows up to the cell that have an entry, and in the blocks up
-/// to it that aren't there, each at the cost of finding a block; `next_cell` in those from its slot
-/// on.
+/// `entries_into` finds its block as `put` does. A look into a finished block reads its cells from
+/// the first on. A run of `cells_into` is what is left of a block, or of one that isn't there, or
+/// the slots up to the first block. `cell_count` finds each block between the first and the last,
+/// there or not, and is linear in these, in the rows that are held as their entries, and in the
+/// cells of the first block if it is finished. `cell_at` finds the blocks up to that of the cell as
+/// `cell_count` does, and looks at each row before it in that block; `next_cell` looks at the rows
+/// from its slot on that have an entry, and is linear in the blocks between that aren't there, each
+/// at the cost of finding a block.
 #[derive(Drop)]
 pub struct PackedArchive {
     rows: u32,
@@ -52,7 +59,7 @@ pub struct PackedArchive {
 impl PackedArchive {
     /// Changes the cell of a slot and an origin. A change that is past the horizon is passed over.
     #[inline(always)]
-    fn change(&mut self, slot: i64, origin: Origin, change: &Change) -> Result<(), AllocError>
+    fn change_cell(&mut self, slot: i64, origin: Origin, change: &Change) -> Result<(), AllocError>
         requires { CanTake (cells_in self.old.rows self.old.newest self.old.blocks)
             (cell_slot slot origin) change.now }
         ensures cells { ChangesCell (cell_slot slot origin) change.now self.old.newest
@@ -105,31 +112,9 @@ impl Cells for PackedArchive {
         }
     }
 
-    fn put(
-        &mut self,
-        slot: i64,
-        origin: Origin,
-        number: u64,
-        place: u32,
-        time: i64,
-        value: i64,
-    ) -> Result<(), AllocError> {
-        let sample = NewSample {
-            number,
-            place,
-            time,
-            value,
-        };
-        self.change(slot, origin, &Change::Put(sample))
-    }
-
-    fn join_cell(
-        &mut self,
-        slot: i64,
-        origin: Origin,
-        contribution: &Contribution,
-    ) -> Result<(), AllocError> {
-        self.change(slot, origin, &Change::Join(*contribution))
+    #[inline(always)]
+    fn change(&mut self, slot: i64, origin: Origin, change: &Change) -> Result<(), AllocError> {
+        self.change_cell(slot, origin, change)
     }
 
     fn newest(&self) -> Option<i64> {
@@ -141,15 +126,22 @@ impl Cells for PackedArchive {
         if !is_live(self.rows, self.newest, slot) {
             return Ok(());
         }
-        let entries = self.blocks.row(slot);
-        row.extend_from_slice(entries.as_slice())
+        if let Err(error) = self.blocks.row_into(slot, row) {
+            row.clear();
+            return Err(error);
+        }
+        Ok(())
     }
 
-    fn lone_entry(&self, slot: i64, near: usize) -> Option<(Entry, usize)> {
-        if !is_live(self.rows, self.newest, slot) {
-            return None;
+    fn cells_into(&self, slot: i64, run: &mut Vec<(i64, Entry)>) -> Result<u32, AllocError> {
+        run.clear();
+        let Some(newest) = self.newest else {
+            return Ok(1);
+        };
+        if newest < slot || !is_live(self.rows, self.newest, slot) {
+            return Ok(1);
         }
-        self.blocks.lone_entry(slot, near)
+        self.blocks.cells_into(slot, run)
     }
 
     fn cell_count(&self) -> usize {
@@ -177,13 +169,12 @@ impl Cells for PackedArchive {
         let mut k = 0;
         while k < self.rows {
             let slot = first + i64::from(k);
-            let held = self.blocks.row(slot);
-            let row = held.as_slice();
-            if left < row.len() {
-                return Some((slot, row[left]));
+            let (on, entries) = self.blocks.entries_on(slot, self.rows - k);
+            if left < entries {
+                return self.blocks.nth_cell(slot, on, left);
             }
-            left -= row.len();
-            k += self.blocks.slots_on(slot, self.rows - k);
+            left -= entries;
+            k += on;
         }
         None
     }
@@ -199,8 +190,7 @@ impl Cells for PackedArchive {
         let mut k = rows_before(slot, first, self.rows);
         while k < self.rows {
             let at = first + i64::from(k);
-            let held = self.blocks.row(at);
-            if let Some(entry) = first_after(held.as_slice(), slot < at, origin) {
+            if let Some(entry) = self.blocks.first_after(at, slot < at, origin) {
                 return Some((at, entry));
             }
             k += self.blocks.slots_on(at, self.rows - k);

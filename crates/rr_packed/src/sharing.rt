@@ -17,7 +17,7 @@ fn share_block(block: &mut HeldBlock, alloc: Global, number: i64, others: Option
     match others {
         None => block.finish(alloc),
         Some(others) => match others.get(number) {
-            Some(other) => block.share(other),
+            Some(other) => block.share(alloc, other),
             None => false,
         },
     }

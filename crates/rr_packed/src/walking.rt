@@ -36,7 +36,7 @@ impl Blocks {
     }
 
     /// As `slots_on`, for a slot whose block isn't there: nothing is stored of it either.
-    fn missing_on(&self, slot: i64, most: u32) -> u32
+    pub(crate) fn missing_on(&self, slot: i64, most: u32) -> u32
         requires { block_at (all_blocks self.now) (block_of slot) ≡ None }
         ensures { PassesOver 0 most (λ i. row_at self.now (slot +ℤ pos i)) result }
     {

@@ -1,6 +1,8 @@
 pub mod Becomes
 pub mod Series
 pub mod Listing
+pub mod Runs
+pub mod Walking
 pub mod Joining
 pub mod Archives
 pub mod Indexed

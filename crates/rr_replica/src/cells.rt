@@ -1,11 +1,13 @@
 //! The cells of a replica, in order.
-ghost use Rattle.std.specs.Prelude.{◌≡◌, All, map, take, drop, IfOk, slice_get};
+ghost use Rattle.std.specs.Prelude.{◌≡◌, All, map, take, drop, IfOk, IfSome, slice_get};
 ghost use Rattle.std.specs.FinMap as fin;
 ghost use Rattle.rr_cells.specs.CellBounds.{IsCellOf};
 ghost use Rattle.rr_cells.specs.Listing.{owned_cell, at_most_usize, cell_name, next_cell};
 ghost use Rattle.rr_replica.specs.Listing.{LendsCell};
+ghost use Rattle.rr_replica.specs.Runs.{IsNextOfAll};
 
-use crate::next::{NameRef, next_cell};
+use crate::cell_walk::CellWalk;
+use crate::next::{KeyArchive, NameRef, key_archive, next_cell};
 use crate::nth_cell::{count_cells, nth_cell};
 use crate::replica::Replica;
 use rr_archive::Cells;
@@ -54,8 +56,17 @@ impl<A: Cells> Replica<A> {
         next_cell(&self.series, &name)
     }
 
+    /// The archive of a key with a number, if it has one. The cost is one look-up of the key.
+    pub(crate) fn key_archive(&self, key: &SeriesKey, number: u8) -> Option<KeyArchive<'_, A>>
+        ensures { IfSome result (λ own.
+            IsNextOfAll self.now.cells own.key.now own.number (A.cells own.archive.now)) }
+    {
+        key_archive(&self.series, key, number)
+    }
+
     /// As many cells as `count` from an offset on, in the same order; fewer where there are fewer.
-    /// The cost is that of `cell_at` for the first, and for each further cell that of `next_cell`.
+    /// The cost is that of `cell_at` for the first, and for each further cell that of
+    /// [`CellWalk::next_cell`].
     pub fn cells_from(
         &self,
         alloc: Global,
@@ -70,13 +81,14 @@ impl<A: Cells> Replica<A> {
         // The proof needs what the replica keeps to, which `schema` ensures.
         let _schema = self.schema();
         let mut cells = Vec::new(alloc);
+        let mut walk = CellWalk::new(alloc, self);
         let mut next = self.cell_at(from);
         for _ in 0..count {
             let Some(cell) = next else {
                 return Ok(cells);
             };
             cells.push(cell.to_cell()?)?;
-            next = self.next_cell(cell.key, cell.archive, cell.slot, cell.origin);
+            next = walk.next_cell(cell.key, cell.archive, cell.slot, cell.origin);
         }
         Ok(cells)
     }

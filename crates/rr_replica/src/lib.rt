@@ -6,13 +6,15 @@
 //! each archive it is added to the cell that its time falls in. Of a [`Cell`] from elsewhere and
 //! what stands at its name the greater is kept, and the next number moves past a cell of the
 //! replica's own origin. Cells are listed in the order of their names, from an offset on or after a
-//! name.
+//! name; a [`CellWalk`] is for those who read many of them, one after the other.
 //!
 //! Either of the two steps is an [`Op`] too, as a value. Room for it is made before it is applied,
 //! which then can't fail (`specs/ReplicaWithRoom.antt`).
 #![tactic(auto)]
 
 mod archives;
+mod cell_run;
+mod cell_walk;
 mod cells;
 mod copies;
 mod fault;
@@ -34,6 +36,7 @@ mod shared_rows;
 mod slots;
 mod unkeyed_sample;
 
+pub use cell_walk::CellWalk;
 pub use fault::{AHEAD_OF_CLOCK, JoinFault, NUMBERS_SPENT, PutFault, WriteFault};
 pub use hint::Hint;
 pub use points::{Sink, is_ahead, write_point};

@@ -8,6 +8,7 @@ ghost use Rattle.rr_replica.specs.InMemory.{held_series};
 ghost use Rattle.rr_replica.specs.SeriesMap.{entries_of};
 ghost use Rattle.rr_cells.specs.Listing.{seen_cell, first_after, next_cell};
 ghost use Rattle.rr_replica.specs.Listing.{seen_name};
+ghost use Rattle.rr_replica.specs.Runs.{IsNextOfAll};
 ghost use Rattle.rr_replica.specs.Series.{cells_from, cells_of};
 
 use crate::nth_cell::named;
@@ -25,6 +26,14 @@ pub(crate) struct NameRef<'a> {
     pub(crate) archive: u8,
     pub(crate) slot: i64,
     pub(crate) origin: Origin,
+}
+
+/// An archive of a key, by its number.
+#[derive(Drop)]
+pub(crate) struct KeyArchive<'a, A: Drop> {
+    pub(crate) key: &'a SeriesKey,
+    pub(crate) number: u8,
+    pub(crate) archive: &'a A,
 }
 
 /// The first cell of a key's archives from the one with a number on.
@@ -65,19 +74,40 @@ fn next_in<'a, A: Cells>(
     }
 }
 
-/// The first cell after a name in its own archive, if that has one: found by the hash of its key.
+/// The archive of a key with a number, if it has one: found by the hash of the key. The cell that
+/// is next there is the next one of all.
+pub(crate) fn key_archive<'a, A: Cells>(
+    series: &'a SeriesMap<A>,
+    key: &SeriesKey,
+    number: u8,
+) -> Option<KeyArchive<'a, A>>
+    ensures key { IfSome result (λ own. own.key.now ≡ key.now) }
+    ensures number { IfSome result (λ own. own.number ≡ number) }
+    ensures next { IfSome result (λ own. IsNextOfAll
+        (cells_of (held_series A.cells (entries_of series.now))) own.key.now own.number
+        (A.cells own.archive.now)) }
+{
+    let (key, archives) = series.known(key)?;
+    let index = number as usize;
+    if index >= archives.len() {
+        return None;
+    }
+    Some(KeyArchive {
+        key,
+        number,
+        archive: &archives[index],
+    })
+}
+
+/// The first cell after a name in its own archive, if that has one.
 fn next_in_own<'a, A: Cells>(series: &'a SeriesMap<A>, name: &NameRef<'_>) -> Option<CellRef<'a>>
     ensures { IfSome result (λ c. next_cell
         (cells_of (held_series A.cells (entries_of series.now))) (seen_name name.now)
         ≡ Some (seen_cell c)) }
 {
-    let (key, archives) = series.known(name.key)?;
-    let own = name.archive as usize;
-    if own >= archives.len() {
-        return None;
-    }
-    let cell = archives[own].next_cell(name.slot, name.origin)?;
-    Some(named(key, name.archive, cell))
+    let own = key_archive(series, name.key, name.archive)?;
+    let cell = own.archive.next_cell(name.slot, name.origin)?;
+    Some(named(own.key, own.number, cell))
 }
 
 /// The first cell after a name among those of all series. No series before the name's key is walked

@@ -8,6 +8,7 @@ ghost use Rattle.rr_replica.specs.Calls.{HoldsTheSame};
 use crate::replica::Replica;
 use crate::series::SeriesMap;
 use rr_archive::Cells;
+use rr_key::SeriesKey;
 
 /// Shares rows of archives, each with the one of the same number; where that is not there, finished
 /// rows are made ready to be shared.
@@ -38,6 +39,16 @@ impl<A: Cells> Replica<A> {
         ensures { HoldsTheSame self.old self.new }
     {
         share_at(&mut self.series, series, &[]);
+    }
+
+    /// Makes finished rows of a key ready to be shared, as [`Replica::finish_rows`] does those of a
+    /// series, if the key is known. The cost is one look-up of the key more.
+    pub fn finish_rows_of(&mut self, key: &SeriesKey)
+        ensures { HoldsTheSame self.old self.new }
+    {
+        if let Some(series) = self.series.find(key) {
+            self.finish_rows(series);
+        }
     }
 
     /// Makes finished rows of all series ready to be shared, as [`Replica::finish_rows`] does those

@@ -11,9 +11,8 @@ ghost use Rattle.rr_ring.specs.RingCells.{AreInOrder, IsArchiveState, cells_in, 
 use crate::ring::Ring;
 use rr_archive::change::Change;
 use rr_archive::live_slots::{first_live, is_live, later, rows_before};
-use rr_archive::row::first_after;
-use rr_archive::{Archive, Cells, Entry, NewSample};
-use rr_contrib::Contribution;
+use rr_archive::row::{first_after, push_cells};
+use rr_archive::{Archive, Cells, Entry};
 use rr_schema::Origin;
 use std::alloc::{AllocError, Global};
 
@@ -67,7 +66,7 @@ impl RingArchive {
     }
 
     /// Changes the cell of a slot and an origin. A change that is past the horizon is passed over.
-    fn change(&mut self, slot: i64, origin: Origin, change: &Change) -> Result<(), AllocError>
+    fn change_cell(&mut self, slot: i64, origin: Origin, change: &Change) -> Result<(), AllocError>
         requires { CanTake (cells_in self.old.newest self.old.ring) (cell_slot slot origin)
             change.now }
         ensures { ChangesCell (cell_slot slot origin) change.now self.old.newest
@@ -118,31 +117,8 @@ impl Cells for RingArchive {
         }
     }
 
-    fn put(
-        &mut self,
-        slot: i64,
-        origin: Origin,
-        number: u64,
-        place: u32,
-        time: i64,
-        value: i64,
-    ) -> Result<(), AllocError> {
-        let sample = NewSample {
-            number,
-            place,
-            time,
-            value,
-        };
-        self.change(slot, origin, &Change::Put(sample))
-    }
-
-    fn join_cell(
-        &mut self,
-        slot: i64,
-        origin: Origin,
-        contribution: &Contribution,
-    ) -> Result<(), AllocError> {
-        self.change(slot, origin, &Change::Join(*contribution))
+    fn change(&mut self, slot: i64, origin: Origin, change: &Change) -> Result<(), AllocError> {
+        self.change_cell(slot, origin, change)
     }
 
     fn newest(&self) -> Option<i64> {
@@ -152,6 +128,12 @@ impl Cells for RingArchive {
     fn entries_into(&self, slot: i64, row: &mut Vec<Entry>) -> Result<(), AllocError> {
         row.clear();
         row.extend_from_slice(self.row(slot))
+    }
+
+    fn cells_into(&self, slot: i64, run: &mut Vec<(i64, Entry)>) -> Result<u32, AllocError> {
+        run.clear();
+        push_cells(run, slot, self.row(slot))?;
+        Ok(1)
     }
 
     fn cell_count(&self) -> usize {

@@ -6,6 +6,9 @@ ghost use Rattle.rr_io.specs.Counted.{inner_of};
 ghost use Rattle.rr_schema.specs.Added.{IsAddition, older};
 ghost use Rattle.rr_page.specs.PageReading.{is_after};
 ghost use Rattle.rr_cells.specs.Listing.{owned_cell};
+ghost use Rattle.rr_cells.specs.CellBounds.{IsCellOf};
+ghost use Rattle.rr_cells.specs.Joining.{with_cell};
+ghost use Rattle.rr_replica.specs.Becomes.{Becomes};
 ghost use Rattle.rr_replica.specs.ReplicaWithRoom.{replica_state};
 ghost use Rattle.rr_cells.specs.Raising.{raised};
 ghost use Rattle.rr_snapshot.specs.SnapshotReading.{cells_after};
@@ -24,7 +27,7 @@ use rr_replica::Replica;
 use rr_schema::{Addition, Origin, Schema};
 use rr_text::limits::MAX_ARCHIVES;
 use sha2::{Digest, Sha256};
-use std::alloc::Global;
+use std::alloc::{AllocError, Global};
 use std::io::Read;
 
 /// Whether the name of a cell is greater than that of the cell before it, if there is one.
@@ -53,6 +56,26 @@ fn raised(addition: Addition, archive: u8) -> u8
             }
         }
     }
+}
+
+/// Joins a cell that comes after another, if there is one. No further cell of that one's key comes
+/// if this one is of a later key: its finished rows are made ready to be shared then, so that no
+/// more than one series is held as it is built.
+fn join_next<A: Cells>(
+    replica: &mut Replica<A>,
+    before: &Option<Cell>,
+    cell: &Cell,
+) -> Result<(), AllocError>
+    requires { IsCellOf replica.old.schema (owned_cell cell.now) }
+    ensures state { Becomes (replica_state replica.old)
+        (with_cell (replica_state replica.old) cell.now) (replica_state replica.new) result }
+{
+    if let Some(before) = before {
+        if before.key != cell.key {
+            replica.finish_rows_of(&before.key);
+        }
+    }
+    replica.join_cell(cell)
 }
 
 /// Joins the cells after a head into a replica, each after the one before it, and answers whether
@@ -87,7 +110,7 @@ fn join_cells_from<A: Cells, R: Read>(
         if !is_after(&before, &cell) {
             return Err(LoadFault::OutOfOrder);
         }
-        replica.join_cell(&cell)?;
+        join_next(replica, &before, &cell)?;
         has_own |= cell.origin == origin;
         before = Some(cell);
     }

@@ -18,12 +18,13 @@ use crate::writing::{write_cell, write_piece};
 use rr_archive::Cells;
 use rr_io::Counted;
 use rr_io::stream::write_all;
-use rr_replica::Replica;
+use rr_replica::{CellWalk, Replica};
 use sha2::{Digest, Sha256};
 use std::alloc::Global;
 use std::io::Write;
 
-/// Writes the cells of a replica, in order, and adds their bytes to what is digested.
+/// Writes the cells of a replica, in order, and adds their bytes to what is digested. The cost is
+/// that of `CellWalk::next_cell` for each cell, and of its bytes.
 fn write_cells<A: Cells, W: Write>(
     alloc: Global,
     replica: &Replica<A>,
@@ -35,19 +36,20 @@ fn write_cells<A: Cells, W: Write>(
     ensures { SavesPart W.contents output.old output.new hasher.old hasher.new
         (flat_map (cell_text latest) (entries replica.now.cells)) result }
 {
+    let mut walk = CellWalk::new(alloc, replica);
     let mut next = replica.cell_at(0);
     for _ in 0..count {
         let Some(cell) = next else {
             return Ok(());
         };
         write_cell(alloc, &cell, output, hasher)?;
-        next = replica.next_cell(cell.key, cell.archive, cell.slot, cell.origin);
+        next = walk.next_cell(cell.key, cell.archive, cell.slot, cell.origin);
     }
     Ok(())
 }
 
 /// Writes the cells of a replica as a snapshot in the latest version, one after the other. Besides
-/// the replica there is one cell's bytes in memory at a time.
+/// the replica there are a run of its cells and one cell's bytes in memory at a time.
 ///
 /// Refused as `TooManyCells` where there are more than 4,294,967,295 cells, and then nothing is
 /// written; as `WriteFailed` where the writer fails; and as `Memory`. After a refusal a prefix of

@@ -6,6 +6,7 @@ mod desk;
 mod faults;
 mod fetches;
 mod file_shelf;
+mod finished;
 mod gates;
 mod halts;
 mod keys;

@@ -1,10 +1,11 @@
-use Rattle.std.proofs.Common.{◌≡◌, ℕ, List, [], ◌++◌, ◌+◌, ◌*◌, ◌≤◌, All, get_or, drop, take, length, refl, sym, ap, subst, ◌∙◌, append_assoc, rules}
+use Rattle.std.proofs.Common.{◌≡◌, ℕ, List, [], ◌++◌, ◌+◌, ◌*◌, ◌≤◌, All, get_or, drop, take, length, Ok, refl, sym, ap, subst, ◌∙◌, append_assoc, rules}
 use Rattle.std.proofs.lemmas.List.{drop_all, take_all, take_more, append-nil}
 use Rattle.std.proofs.lemmas.List.Elements.{All-push}
 use Rattle.rr_codec.specs.Fields.{IsTyped}
+use Rattle.rr_codec.specs.Reading.{packed_at}
 use Rattle.rr_codec.specs.Recent.{KnownState}
 use Rattle.rr_codec.specs.Text.{cell_text, cells_text, next_known, packed_text}
-use Rattle.rr_codec.proofs.CellLemmas.{texts_more}
+use Rattle.rr_codec.proofs.CellLemmas.{packed_again, texts_more}
 use Rattle.rr_codec.proofs.LengthLemmas.{packed_len}
 use Rattle.rr_codec.proofs.encoding.encode.Goals as goal
 
@@ -39,6 +40,8 @@ returns c =
     ∙ c.loop-cell.invariant.added in
     let typed : All IsTyped cells = rw (take_all i cells c.loop-cell-test.false) at c.loop-cell.invariant.typed in
     record {
+      read = subst (λ (l : List ℕ). packed_at l ≡ Ok (cells, [])) (append-nil (packed_text span cells) ∙ sym text)
+          (packed_again span cells [] c.guessed_span-span.ensures c.requires typed);
       text = (span, c.guessed_span-span.ensures, text);
       size = subst (λ (l : List ℕ). length l ≤ 24 + 123 * length cells) (sym text)
           (packed_len span cells c.requires typed);

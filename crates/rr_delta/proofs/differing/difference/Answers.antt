@@ -25,6 +25,7 @@ loop-next-init g c =
     record {
       so_far = λ i. map owned_cell (c.new-cells.ensures.items i) ++ newer_cells summary (start i);
       left = left_at_start (option_map seen_cell c.cell_at-next.result) summary;
+      walk = c.new-walk.ensures;
     }
 
 pub loop-next-smaller : goal.loop-next-smaller
@@ -33,7 +34,8 @@ loop-next-smaller g c =
     let cell = c.in-Some.cell in
     let e = seen_cell cell in
     let slot : to_z w64 (of_z w64 cell.slot) ≡ cell.slot = search rules in
-    let left = ap (λ o. length (cells_from o es)) (rw slot at c.next_cell-next.ensures.listed)
+    let left = ap (λ o. length (cells_from o es))
+    (rw slot at (rw c.loop-next.invariant.walk at c.next_cell-next.ensures.next).listed)
     ∙ ap length (walked_on e.0 es (entries_sorted c.args.replica.now.cells)) in
     let before : length (cells_from (option_map seen_cell c.loop-next.next) es)
     ≡ suc (length (filter (is_past e.0) es)) = ap (λ o. length (cells_from (option_map seen_cell o) es))
@@ -50,7 +52,7 @@ loop-next-preserved g c =
     let prefix = map owned_cell c.loop-next.cells.items in
     let left = map owned_name c.names_from-names.result.now in
     let slot : to_z w64 (of_z w64 cell.slot) ≡ cell.slot = search rules in
-    let next = rw slot at c.next_cell-next.ensures.listed in
+    let next = rw slot at (rw c.loop-next.invariant.walk at c.next_cell-next.ensures.next).listed in
     let here = left_here e summary (map owned_name c.loop-next.names.now)
     (subst (λ o. AreLeft (option_map seen_cell o) summary (map owned_name c.loop-next.names.now)) c.in-Some.is
     c.loop-next.invariant.left) in
@@ -64,6 +66,7 @@ loop-next-preserved g c =
           ∙ ap (λ o. prefix ++ newer_cells summary (cells_from (option_map seen_cell o) es)) (sym c.in-Some.is)
           ∙ c.loop-next.invariant.so_far;
       left = left_later e es (option_map seen_cell c.next_cell-next.result) summary left names next;
+      walk = c.next_cell-next.ensures.same ∙ c.loop-next.invariant.walk;
     }
 
 pub returns : goal.returns

@@ -8,13 +8,15 @@ use Rattle.rr_delta.specs.Difference.{newer_cells}
 use Rattle.rr_delta.proofs.DifferenceLemmas.{AreLeft}
 use Rattle.rr_delta.proofs.differing.difference.Given as goal
 
--- the cells so far, and the newer ones of what is left; the names that are left of the summary
+-- the cells so far, and the newer ones of what is left; the names that are left of the summary; the walk is over the
+-- replica
 abbrev pub invariant-loop-next : goal.invariant-loop-next
 invariant-loop-next g l = record {
   so_far : map owned_cell l.cells.items ++ newer_cells (map owned_name l.summary)
       (cells_from (option_map seen_cell l.next) (entries l.replica.cells))
       ≡ newer_cells (map owned_name l.summary) (entries l.replica.cells);
   left : AreLeft (option_map seen_cell l.next) (map owned_name l.summary) (map owned_name l.names);
+  walk : l.walk ≡ l.replica;
 }
 
 abbrev pub decreases-loop-next : goal.decreases-loop-next

@@ -21,11 +21,15 @@ loop-preserved g c =
     let slot : to_z w64 (of_z w64 cell.slot) ≡ cell.slot = search rules in
     let named : owned_name name ≡ named_version e = search rules in
     let items : c.push.new.self.items ≡ c.loop.names.items ++ name ∷ [] = search rules in
-    let left = ap (λ o. cells_from o es) (rw slot at c.next_cell-next.ensures.listed)
+    let left = ap (λ o. cells_from o es) (rw slot at (rw c.loop.invariant.walk at c.next_cell-next.ensures.next).listed)
     ∙ walked_on e.0 es (entries_sorted c.args.replica.now.cells) in
-    (λ i. listed_so_far ((ap (map owned_name) items ∙ map_push owned_name c.loop.names.items name
-    ∙ ap (λ v. prefix ++ v ∷ []) named) i) (c.args.count - (c.loop.counter + 1)) (left i))
-    ∙ one_listed prefix c.args.count c.loop.counter e (filter (is_past e.0) es) c.loop-test.true
-    ∙ ap (λ o. listed_so_far prefix (c.args.count - c.loop.counter) (cells_from (option_map seen_cell o) es))
-    (sym c.in-Some.is)
-    ∙ c.loop.invariant
+    record {
+      names =
+          (λ i. listed_so_far ((ap (map owned_name) items ∙ map_push owned_name c.loop.names.items name
+          ∙ ap (λ v. prefix ++ v ∷ []) named) i) (c.args.count - (c.loop.counter + 1)) (left i))
+          ∙ one_listed prefix c.args.count c.loop.counter e (filter (is_past e.0) es) c.loop-test.true
+          ∙ ap (λ o. listed_so_far prefix (c.args.count - c.loop.counter) (cells_from (option_map seen_cell o) es))
+          (sym c.in-Some.is)
+          ∙ c.loop.invariant.names;
+      walk = c.next_cell-next.ensures.same ∙ c.loop.invariant.walk;
+    }

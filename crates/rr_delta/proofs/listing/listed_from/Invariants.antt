@@ -7,9 +7,11 @@ use Rattle.rr_delta.specs.Summaries.{cells_from}
 use Rattle.rr_delta.proofs.SummaryLemmas.{listed_so_far}
 use Rattle.rr_delta.proofs.listing.listed_from.Given as goal
 
--- the names so far, and those that are still to come
+-- the names so far, and those that are still to come; the walk is over the replica
 abbrev pub invariant-loop : goal.invariant-loop
-invariant-loop g l =
-    listed_so_far (map owned_name l.names.items) (l.fn.count - l.counter)
-    (cells_from (option_map seen_cell l.next) (entries l.replica.cells))
-    ≡ take l.fn.count (map named_version (cells_from (Some (seen_cell l.first)) (entries l.replica.cells)))
+invariant-loop g l = record {
+  names : listed_so_far (map owned_name l.names.items) (l.fn.count - l.counter)
+      (cells_from (option_map seen_cell l.next) (entries l.replica.cells))
+      ≡ take l.fn.count (map named_version (cells_from (Some (seen_cell l.first)) (entries l.replica.cells)));
+  walk : l.walk ≡ l.replica;
+}

@@ -39,8 +39,8 @@ raised-requires g c =
     let there = c.in_ok-cell.ensures.cell.archive in
     omega (arith, few, there)
 
-pub join_cell-requires : goal.join_cell-requires
-join_cell-requires g c =
+pub join_next-requires : goal.join_next-requires
+join_next-requires g c =
     let so_far = c.loop.invariant.cells in
     let a = c.args.head.addition in
     let s = c.args.replica.now.schema in
@@ -132,8 +132,8 @@ loop-preserved g c =
         goes_on_stream h.version t so_far.0 h.count c.loop.counter c.loop-test.true old now new e so_far.1 read rising,
         ap (option_map (raised_name h.addition)) (last_name_push so_far.0 e) ∙ ap (λ (n : CellName). Some n) (sym name),
         HasJoined-more h.addition (replica_state c.args.replica.now) (replica_state c.loop.replica)
-            (replica_state c.join_cell.new.self) c.loop.has_own c.eq-has_own.result _ so_far.0 e so_far.3
-            (c.in_ok-join_cell.ensures.state.made ∙ ap (λ (n : CellName). with_named (replica_state c.loop.replica)
+            (replica_state c.join_next.new.replica) c.loop.has_own c.eq-has_own.result _ so_far.0 e so_far.3
+            (c.in_ok-join_next.ensures.state.made ∙ ap (λ (n : CellName). with_named (replica_state c.loop.replica)
             (n, e.1)) name) (c.eq-has_own.ensures ∙ ap (λ (o : ℕ). e.0.origin == o) c.origin-origin.ensures) refl,
       );
       prefix = read_then old now new c.loop.invariant.prefix c.cell_from.ensures.stream.prefix;
@@ -191,8 +191,8 @@ returns-then-not-is_after-clause-loads g c = record {
   memory = search rules;
 }
 
-pub returns-in_err-join_cell-clause-loads : goal.returns-in_err-join_cell-clause-loads
-returns-in_err-join_cell-clause-loads g c = record {
+pub returns-in_err-join_next-clause-loads : goal.returns-in_err-join_next-clause-loads
+returns-in_err-join_next-clause-loads g c = record {
   digest = search rules;
   stream = record {
     prefix = read_then _ _ _ c.loop.invariant.prefix c.cell_from.ensures.stream.prefix;

@@ -60,6 +60,7 @@ loop-init g c = record {
   written = Appends-nil (g.W.Write.contents (inner_of c.args.output.now));
   digest = λ m h. subst (Holds256 c.args.hasher.now) (sym (append-nil m)) h;
   count = search rules;
+  walk = c.new-walk.ensures;
 }
 
 pub loop-preserved : goal.loop-preserved
@@ -76,7 +77,7 @@ loop-preserved g c =
     let old = g.W.Write.contents (inner_of c.args.output.now) in
     let new = g.W.Write.contents (inner_of c.write_cell.new.output) in
     record {
-      next = rw slot at c.next_cell-next.ensures.listed
+      next = rw slot at (rw c.loop.invariant.walk at c.next_cell-next.ensures.next).listed
           ∙ next_of_sorted all i (seen_cell cell) (entries_sorted c.args.replica.now.cells) at;
       written = subst (Appends old new) (sym more) (Appends-trans old (g.W.Write.contents (inner_of c.loop.output)) new
           done piece c.loop.invariant.written c.in_ok-write_cell.ensures.whole);
@@ -84,6 +85,7 @@ loop-preserved g c =
           (append_assoc m done piece ∙ ap (λ (l : List ℕ). m ++ l) (sym more))
           (c.in_ok-write_cell.ensures.digest (m ++ done) (c.loop.invariant.digest m h));
       count = search rules;
+      walk = c.next_cell-next.ensures.same ∙ c.loop.invariant.walk;
     }
 
 pub returns : goal.returns

@@ -10,7 +10,7 @@ use Rattle.rr_page.specs.Version.{latest}
 use Rattle.rr_cells.specs.Listing.{seen_cell}
 use Rattle.rr_snapshot.proofs.saving.write_cells.Given as goal
 
--- the cells so far are written and digested, and the next is the one after them
+-- the cells so far are written and digested, and the next is the one after them; the walk is over the replica
 abbrev pub invariant-loop : goal.invariant-loop
 invariant-loop g l = record {
   next : option_map seen_cell l.next ≡ slice_get (entries l.replica.cells) l.counter;
@@ -19,4 +19,5 @@ invariant-loop g l = record {
   digest : (m : List ℕ) → Holds256 l.initial.hasher m
       → Holds256 l.hasher (m ++ flat_map (cell_text latest) (take l.counter (entries l.replica.cells)));
   count : failures_of l.initial.output ≤ failures_of l.output;
+  walk : l.walk ≡ l.replica;
 }

@@ -13,14 +13,11 @@ use Rattle.rr_packed.specs.Sparse.{place_at}
 use Rattle.rr_packed.specs.Sparse.{has_room as has_spare}
 use Rattle.rr_packed.specs.Blocks.{items_in, has_room_in, IsUnheld}
 use Rattle.rr_packed.proofs.SparseLemmas.{item_none}
-use Rattle.rr_packed.proofs.BlockLemmas.{items_none, items_by_entries, found_entries, entries_alike, entries_changed, room_of_entries, room_is_free}
+use Rattle.rr_packed.proofs.BlockLemmas.{items_by_entries, found_entries, entries_alike, entries_changed, room_of_entries, room_is_free}
+use Rattle.rr_packed.proofs.FreeRowLemmas.{items_unheld}
 use Rattle.rr_packed.proofs.block.Block.change.Goals as goal
 
 -- ---- it has no entry
-
-empty : (b : Block) (k : ℕ) → IsUnheld b k → items_in b k ≡ []
-empty b k free = items_none b k (item_none b.rows.mask b.rows.items.items k free.rows)
-    (item_none b.samples.mask b.samples.items.items k free.samples)
 
 spare : (b : Block) (k origin : ℕ) → IsUnheld b k → IsTrue (has_room_in b k origin)
     → IsTrue (has_spare b.samples && has_spare b.rows)
@@ -37,7 +34,8 @@ returns-then-is_free c = record {
       on_ok_weaker c.add.result
       (λ added. λ n. added n
       ∙ (λ i. cond (eqb n k)
-      (ap (λ l. with_entry l (entry_after l c.args.origin c.args.change.now)) (sym (empty b k free)) i) (items_in b n)))
+      (ap (λ l. with_entry l (entry_after l c.args.origin c.args.change.now)) (sym (items_unheld b k free)) i)
+      (items_in b n)))
       c.add.ensures.changed;
   unchanged = search rules;
   room =
@@ -54,7 +52,8 @@ returns-in-None c = record {
       let mid = c.unpack.new.self in
       let k = c.args.number.value in
       let free : IsUnheld mid k = search rules in
-      let none : items_in c.args.self.now k ≡ [] = sym (ap (λ f. f k) c.unpack.ensures.same) ∙ empty mid k free in
+      let none : items_in c.args.self.now k ≡ [] =
+      sym (ap (λ f. f k) c.unpack.ensures.same) ∙ items_unheld mid k free in
       on_ok_weaker c.add-in-None.result (λ added. λ n. added n
       ∙ (λ i. cond (eqb n k) (ap (λ l. with_entry l (entry_after l c.args.origin c.args.change.now)) (sym none) i)
       (c.unpack.ensures.same i n))) c.add-in-None.ensures.changed;

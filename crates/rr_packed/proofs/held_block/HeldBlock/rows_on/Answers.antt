@@ -1,9 +1,30 @@
-use Rattle.std.proofs.Common.{rules, ◌+◌, sym, ap, ◌∙◌}
+use Rattle.std.proofs.Common.{rules, ◌≡◌, ◌+◌, sym, ap, ◌∙◌}
+use Rattle.rr_packed.specs.declared.block.Block.{Block}
+use Rattle.rr_packed.specs.declared.packed_rows.PackedRows.{PackedRows}
+use Rattle.rr_packed.specs.Blocks.{items_in, stored_in}
+use Rattle.rr_packed.specs.PackedRows.{items_packed}
 use Rattle.rr_packed.proofs.held_block.HeldBlock.rows_on.Goals as goal
 
-pub returns : goal.returns
-returns c = record {
+pub returns-in-Own : goal.returns-in-Own
+returns-in-Own c = record {
   at_least_one = search rules;
   at_most = search rules;
-  empty = λ i some h. sym (ap (λ f. f (c.args.number.value + i)) c.block.ensures) ∙ c.rows_on.ensures.empty i some h;
+  empty =
+      λ i some h.
+      let block : c.deref.result.now ≡ c.in-Own.block.value = search rules in
+      ap (λ b. stored_in b (c.args.number.value + i)) c.in-Own.is
+      ∙ ap (λ (b : Block). items_in b (c.args.number.value + i)) (sym block)
+      ∙ c.rows_on.ensures.empty i some h;
+}
+
+pub returns-in-Shared : goal.returns-in-Shared
+returns-in-Shared c = record {
+  at_least_one = search rules;
+  at_most = search rules;
+  empty =
+      λ i some h.
+      let packed : c.deref-in-Shared.result.now ≡ c.in-Shared.packed.value = search rules in
+      ap (λ b. stored_in b (c.args.number.value + i)) c.in-Shared.is
+      ∙ ap (λ (p : PackedRows). items_packed p.bytes.items (c.args.number.value + i)) (sym packed)
+      ∙ c.rows_on-in-Shared.ensures.empty i some h;
 }

@@ -1,7 +1,5 @@
-use Rattle.std.proofs.Common.{rules, ◌≡◌, true, false, cond, is_ok, List, [], ◌++◌, length, Result, Ok, Err, OnOk, sym, ap, ◌∙◌, arith}
-use Rattle.std.proofs.lemmas.Result.{on_ok_weaker}
+use Rattle.std.proofs.Common.{rules, ◌≡◌, true, false, cond, [], ◌++◌, length, sym, ap, ◌∙◌, arith, to_z, of_z, w64}
 use Rattle.rr_join.specs.Horizon.{is_above}
-use Rattle.rr_archive.specs.declared.entry.Entry.{Entry}
 use Rattle.rr_archive.specs.Cells.{row_of}
 use Rattle.rr_archive.specs.LiveRows.{cells_by}
 use Rattle.rr_archive.proofs.LiveRowsLemmas.{row_of-cells_by}
@@ -17,35 +15,27 @@ returns-then-not-is_live-clause-written c =
     none ∙ sym (row_of-cells_by f a.rows a.newest a.held.ascend a.held.none_later c.args.slot
     ∙ ap (λ b. cond b (f c.args.slot) []) dead)
 
--- what was appended to a row that was cleared
-appended : {T E : Type 0} (r : Result T E) (old new other : List Entry) → old ≡ []
-    → new ≡ cond (is_ok r) (old ++ other) old → OnOk r (new ≡ other)
-appended (Ok x) old new other none is = is ∙ ap (λ l. l ++ other) none
-appended (Err e) old new other none is = tt
+pub returns-in-Err-clause-room : goal.returns-in-Err-clause-room
+returns-in-Err-clause-room c = λ room.
+    let a = c.args.self.now in
+    let f = row_at a.blocks in
+    let slot : to_z w64 (of_z w64 c.args.slot) ≡ c.args.slot = search rules in
+    let live : is_above a.rows a.newest c.args.slot ≡ true = search rules in
+    let held : length (row_of (cells_by a.rows a.newest f) c.args.slot) ≡ length (f c.args.slot) =
+    ap length (row_of-cells_by f a.rows a.newest a.held.ascend a.held.none_later c.args.slot
+    ∙ ap (λ b. cond b (f c.args.slot) []) live) in
+    let len = c.clear.ensures.len in
+    let none : length c.clear.new.self.items ≡ 0 = search rules in
+    let capacity = c.clear.ensures.capacity in
+    (rw slot at c.in-Err.ensures.room) (omega arith)
 
 pub returns-clause-written : goal.returns-clause-written
 returns-clause-written c =
     let a = c.args.self.now in
     let f = row_at a.blocks in
+    let slot : to_z w64 (of_z w64 c.args.slot) ≡ c.args.slot = search rules in
     let live : is_above a.rows a.newest c.args.slot ≡ true = search rules in
-    let stored : c.as_slice.result.now ≡ f c.args.slot = search rules in
-    let held = row_of-cells_by f a.rows a.newest a.held.ascend a.held.none_later c.args.slot
-    ∙ ap (λ b. cond b (f c.args.slot) []) live in
     let none : c.clear.new.self.items ≡ [] = search rules in
-    on_ok_weaker c.extend_from_slice.result (λ e. e ∙ stored ∙ sym held)
-    (appended c.extend_from_slice.result c.clear.new.self.items c.extend_from_slice.new.self.items
-    c.as_slice.result.now none c.extend_from_slice.ensures.items)
-
-pub returns-clause-room : goal.returns-clause-room
-returns-clause-room c = λ room.
-    let a = c.args.self.now in
-    let f = row_at a.blocks in
-    let live : is_above a.rows a.newest c.args.slot ≡ true = search rules in
-    let stored : c.as_slice.result.now ≡ f c.args.slot = search rules in
-    let held = row_of-cells_by f a.rows a.newest a.held.ascend a.held.none_later c.args.slot
-    ∙ ap (λ b. cond b (f c.args.slot) []) live in
-    let same : length c.as_slice.result.now ≡ length (row_of (cells_by a.rows a.newest f) c.args.slot) =
-    ap length (stored ∙ sym held) in
-    let len = c.clear.ensures.len in
-    let capacity = c.clear.ensures.capacity in
-    c.extend_from_slice.ensures.succeeds (omega arith)
+    (rw slot at c.in_default.ensures.added) ∙ ap (λ es. es ++ f c.args.slot) none
+    ∙ sym (row_of-cells_by f a.rows a.newest a.held.ascend a.held.none_later c.args.slot
+    ∙ ap (λ b. cond b (f c.args.slot) []) live)

@@ -65,10 +65,9 @@ returns-in-Some-first_after c =
     let p = cell_slot slot c.args.origin in
     let at = z +ℤ pos c.loop-k.k in
     let at_is : to_z w64 (of_z w64 (z +ℤ to_z w64 (of_z w64 c.from.result))) ≡ at = search rules in
-    let row : c.as_slice.result.now ≡ f at = search rules in
     let e : Entry = c.in-Some-first_after.entry in
     let some : find (is_after (int_lt slot at) c.args.origin) (f at) ≡ Some e =
-    (λ i. find (is_after (int_lt slot (sym at_is i)) c.args.origin) (sym row i)) ∙ sym c.first_after.ensures
+    ap (λ y. find (is_after (int_lt slot y) c.args.origin) (f y)) (sym at_is) ∙ sym c.first_after.ensures
     ∙ c.in-Some-first_after.is in
     ap (λ y. Some (y, e)) at_is
     ∙ sym (past_found slot at c.args.origin (f at) (cells_left f z a.rows (c.loop-k.k + 1)) e
@@ -86,9 +85,8 @@ loop-k-preserved c =
     let slot = to_z w64 (of_z w64 c.args.slot) in
     let at = z +ℤ pos c.loop-k.k in
     let at_is : to_z w64 (of_z w64 (z +ℤ to_z w64 (of_z w64 c.from.result))) ≡ at = search rules in
-    let row : c.as_slice.result.now ≡ f at = search rules in
     let none : find (is_after (int_lt slot at) c.args.origin) (f at) ≡ None =
-    (λ i. find (is_after (int_lt slot (sym at_is i)) c.args.origin) (sym row i)) ∙ sym c.first_after.ensures
+    ap (λ y. find (is_after (int_lt slot y) c.args.origin) (f y)) (sym at_is) ∙ sym c.first_after.ensures
     ∙ c.in_default-first_after.is in
     let within : c.loop-k.k < a.rows = omega arith in
     let skipped : cells_left f z a.rows (c.loop-k.k + 1) ≡ cells_left f z a.rows (c.loop-k.k + c.slots_on-k.result) =

@@ -11,6 +11,7 @@ pub loop-init : goal.loop-init
 loop-init g c = record {
   taken = search rules;
   next = c.cell_at-next.ensures.listed ∙ ap (slice_get (fin.entries c.args.self.now.cells)) (omega arith);
+  walk = c.new-walk.ensures;
 }
 
 pub loop-preserved : goal.loop-preserved
@@ -30,9 +31,10 @@ loop-preserved g c =
           ∙ (λ k. c.loop.invariant.taken k ++ owned k ∷ [])
           ∙ sym (taken_more all c.args.from i (seen_cell cell) at);
       next =
-          rw slot at c.next_cell-next.ensures.listed
+          rw slot at (rw c.loop.invariant.walk at c.next_cell-next.ensures.next).listed
           ∙ next_of_sorted all (c.args.from + i) (seen_cell cell) (fin.entries_sorted c.args.self.now.cells) at
           ∙ ap (slice_get all) (omega arith);
+      walk = c.next_cell-next.ensures.same ∙ c.loop.invariant.walk;
     }
 
 pub returns-in_default-clause-listed : goal.returns-in_default-clause-listed

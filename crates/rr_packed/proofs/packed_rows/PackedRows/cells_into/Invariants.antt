@@ -1,0 +1,13 @@
+use Rattle.std.proofs.Common.{◌≡◌, ◌++◌, length}
+use Rattle.rr_packed.specs.PackedRows.{cells_packed, left_of}
+use Rattle.rr_packed.proofs.RowMoves.{moved_to}
+use Rattle.rr_packed.proofs.packed_rows.PackedRows.cells_into.Given as goal
+
+-- the cells that were added, and those that are left
+abbrev pub invariant-loop-cell : goal.invariant-loop-cell
+invariant-loop-cell l =
+    l.run.items ++ moved_to l.first.value l.slot (left_of l.cells.decoder.cells)
+    ≡ l.initial.run.items ++ moved_to l.first.value l.slot (cells_packed l.self.bytes.items)
+
+abbrev pub decreases-loop-cell : goal.decreases-loop-cell
+decreases-loop-cell l = length (left_of l.cells.decoder.cells)
