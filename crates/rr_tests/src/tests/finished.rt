@@ -18,7 +18,8 @@ fn filled<A: Cells>(alloc: Global) -> Option<A> {
         let sample = Contribution::first(u64::from(n) + 1, 0, slot * 60_000_000_000, slot * slot);
         archive.join_cell(slot, first, &sample).ok()?;
     }
-    archive.share_rows(None);
+    let others: &[A] = &[];
+    archive.share_rows(others.first());
     let late = Contribution::first(7, 0, 70 * 60_000_000_000, -5);
     archive.join_cell(70, second, &late).ok()?;
     Some(archive)
