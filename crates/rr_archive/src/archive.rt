@@ -54,8 +54,8 @@ pub trait Cells: Drop {
     /// Changes the cell of a slot and an origin, as `put` does by a sample and `join_cell` by a cell
     /// from elsewhere.
     ///
-    /// Rows that are then past the horizon are no longer held; a change that is past it itself
-    /// changes nothing. After an error nothing has changed. The cost is at most logarithmic in the
+    /// Rows that are past the horizon afterwards are dropped; a change that is itself past it does
+    /// nothing. After an error nothing has changed. The cost is at most logarithmic in the
     /// rows (one look-up of the slot), and linear in the entries of the row, and in the rows that
     /// go, empty ones too, and their entries.
     fn change(&mut self, slot: i64, origin: Origin, change: &Change) -> Result<(), AllocError>

@@ -44,7 +44,7 @@ fn start_of(slot: i64, span: u32) -> i64
     slot * i64::from(span)
 }
 
-/// The entry of a cell, if there is no other.
+/// The entry of the only cell, if there is exactly one.
 fn lone_entry(cells: &[(i64, Entry)]) -> Option<&Entry>
     ensures { IfSome result (λ entry. map (λ c. c.1) cells.now ≡ entry.now ∷ []) }
 {

@@ -218,7 +218,7 @@ impl HeldBlock {
     }
 
     /// Makes a block of this archive alone ready to be shared, its rows packed. Answers whether it
-    /// did; it doesn't where there is no memory for it, and then the block gives back what its
+    /// did. Without memory for that the block keeps its rows, and gives back the memory that its
     /// lists don't need.
     pub(crate) fn finish(&mut self, alloc: Global) -> bool
         ensures same { stored_in self.new ≡ stored_in self.old }

@@ -36,8 +36,8 @@ use std::alloc::{AllocError, Global};
 ///
 /// `share_rows` packs the block before the newest. With another archive it then compares the bytes
 /// with those of that one's block, and takes these in place of its own where they are the same. It
-/// goes on with the blocks before it, up to one that was finished already or can't be. A block that
-/// there is no memory to pack gives back what its lists don't need.
+/// goes on with the blocks before it, up to one that was finished already or can't be. Without
+/// memory to pack it, a block keeps its rows, and gives back the memory that its lists don't need.
 ///
 /// `entries_into` finds its block as `put` does. A look into a finished block reads its cells from
 /// the first on. A run of `cells_into` is what is left of a block, or of one that isn't there, or
