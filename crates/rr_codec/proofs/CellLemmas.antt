@@ -7,7 +7,7 @@ use Rattle.std.proofs.Math.Seq.{drop-cons}
 use Rattle.rr_codec.specs.declared.fields.Fields.{Fields}
 use Rattle.rr_codec.specs.Numbers.{number_text}
 use Rattle.rr_codec.specs.Fields.{SlotEntry, IsTyped, fields_of}
-use Rattle.rr_codec.specs.Recent.{KnownState, before_at, known_fields, known_steps, nothing_known, place_of}
+use Rattle.rr_codec.specs.Recent.{KnownState, before_at, known_fields, known_fields_at, known_steps, nothing_known, place_of}
 use Rattle.rr_codec.specs.Text.{cell_text, cells_text, next_known, packed_text}
 use Rattle.rr_codec.specs.Reading.{cell_at, cells_at, head_at, packed_at}
 use Rattle.rr_codec.proofs.NumberLemmas.{number_again}
@@ -33,7 +33,7 @@ known_again k f known wide =
 
 pub cell_again : (k : KnownState) (e : SlotEntry) (rest : List ℕ) → AreKnown k → IsTyped e
     → cell_at k (cell_text k e ++ rest) ≡ Ok ((e, next_known k e), rest)
-unfolding cell_at
+unfolding cell_at known_fields_at
 cell_again k e rest known typed =
     let f = fields_of e in
     rw (

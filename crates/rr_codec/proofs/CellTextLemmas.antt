@@ -18,7 +18,7 @@ use Rattle.rr_codec.specs.Fields.{SlotEntry, cell_of, fields_of, number_below, o
 use Rattle.rr_codec.specs.Reading.{cell_at, cells_at, head_at, packed_at}
 use Rattle.rr_codec.specs.Text.{cell_text, cells_text, next_known, packed_text}
 use Rattle.rr_text.specs.Text.{fits_i64}
-use Rattle.rr_codec.specs.Recent.{KnownState, before_at, known_after, known_fields, known_steps, nothing_known, place_of}
+use Rattle.rr_codec.specs.Recent.{KnownState, before_at, known_after, known_fields, known_fields_at, known_steps, nothing_known, place_of}
 use Rattle.rr_codec.proofs.RecentLemmas.{AreKnown, before_wide, known_on, nothing_is_known}
 use Rattle.rr_codec.proofs.StepsLemmas.{AreWide, AreWideSteps}
 use Rattle.rr_codec.proofs.TextLemmas.{then_ok, unless_ok, done, done_same, AreBytes, number_of, steps_of}
@@ -175,23 +175,27 @@ pub record IsCellAt (k : KnownState) (e : SlotEntry) (after : KnownState) (rest 
 cell_of_bytes : (k : KnownState) (e : SlotEntry) (after : KnownState) (rest bytes : List ℕ) → AreKnown k
     → AreBytes bytes
     → cell_at k bytes ≡ done ((e, after), rest) → IsCellAt k e after rest bytes
-unfolding cell_at
+unfolding cell_at known_fields_at
 cell_of_bytes k e after rest bytes known are read =
-    with_then (steps_at bytes) _ ((e, after), rest) read (λ steps steps_are e1.
-    with_then (known_fields k steps.0) _ ((e, after), rest) e1 (λ fields fields_are e2.
-    with_then (cell_of fields) _ ((e, after), rest) e2 (λ cell cell_is e3.
+    with_then (known_fields_at k bytes) _ ((e, after), rest) read (λ found found_is e1.
+    with_then (cell_of found.0) _ ((e, after), rest) e1 (λ cell cell_is e2.
+    with_then (steps_at bytes) _ found found_is (λ steps steps_are e3.
+    with_then (known_fields k steps.0) _ found e3 (λ fields fields_are e4.
+    let same = done_same (fields, steps.1) found e4 in
     let at = steps_of steps.0 steps.1 bytes are steps_are in
     let leads = known_back k steps.0 fields known at.wide fields_are in
-    let back = cell_back fields cell leads.wide cell_is in
+    let cell_is_of = rw (sym same) at cell_is in
+    let back = cell_back fields cell leads.wide cell_is_of in
     subst (λ (x : (SlotEntry × KnownState) × List ℕ). IsCellAt k x.0.0 x.0.1 x.1 bytes)
-    (done_same ((cell, known_after k fields), steps.1) ((e, after), rest) e3)
+    (ap (λ (x : Fields × List ℕ). ((cell, known_after k x.0), x.1)) same
+    ∙ done_same ((cell, known_after k found.0), found.1) ((e, after), rest) e2)
     (record {
       text = at.text ∙ ap (λ (s : Steps). steps_text s ++ steps.1) (sym leads.steps_are)
           ∙ ap (λ (f : Fields). steps_text (known_steps k f) ++ steps.1) (sym back);
       after_is = ap (known_after k) (sym back);
       known = known_on k fields known leads.wide;
       are_bytes = at.are_bytes;
-    }))))
+    })))))
 
 cells_of_bytes : (n : ℕ) (k : KnownState) (es : List SlotEntry) (rest bytes : List ℕ) → AreKnown k → AreBytes bytes
     → cells_at k n bytes ≡ done (es, rest) → (length es ≡ n) × (bytes ≡ cells_text k es ++ rest)

@@ -4,6 +4,7 @@ pub mod StepsLemmas
 pub mod FieldsLemmas
 pub mod ExpectingLemmas
 pub mod RecentLemmas
+pub mod RegularLemmas
 pub mod CellLemmas
 pub mod LengthLemmas
 pub mod TextLemmas

@@ -93,6 +93,14 @@ pub good_high : (b high : ℕ) (bs : List ℕ) (read : Result (ℕ × List ℕ) 
     → is_bad_high high ≡ false → with_low b read ≡ Ok (128 * high + (b - 128), bs)
 good_high b high bs read e t = ap (with_low b) e ∙ rw t refl
 
+pub two_bytes : (low high : ℕ) (bytes behind rest : List ℕ) → bytes ≡ low ∷ behind → behind ≡ high ∷ rest → 128 ≤ low
+    → high < 128 → (high ≡ 0 → ⊥) → number_at bytes ≡ Ok (128 * high + (low - 128), rest)
+two_bytes low high bytes behind rest first second marked last some =
+    let narrow : is_bad_high high ≡ false = grind (arith, nat_tests) in
+    one_more 19 low bytes behind (λ e. omega arith) first marked
+    ∙ good_high low high rest (number_within 18 behind) (last_byte 18 high behind rest (λ e. omega arith) second last)
+    narrow
+
 pub narrow_high : (high : ℕ) → is_bad_high high ≡ false → high < 2 ^ 121
 narrow_high high t = grind (arith, nat_tests)
 

@@ -4,6 +4,7 @@ pub mod Steps
 pub mod Fields
 pub mod Expecting
 pub mod Recent
+pub mod Regular
 pub mod Text
 pub mod Reading
 pub mod Decoding

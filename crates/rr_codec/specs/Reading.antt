@@ -8,16 +8,14 @@ use Rattle.rr_codec.specs.declared.fault.CodecFault.{CodecFault}
 use Rattle.rr_codec.specs.declared.fault.CodecFault.TheVariants.{BadContribution, OutOfOrder, TrailingBytes}
 use Rattle.rr_codec.specs.Fields.{SlotEntry, cell_of, number_below}
 use Rattle.rr_codec.specs.Numbers.{number_at}
-use Rattle.rr_codec.specs.Recent.{KnownState, known_after, known_fields, nothing_known}
-use Rattle.rr_codec.specs.Steps.{steps_at}
+use Rattle.rr_codec.specs.Recent.{KnownState, known_after, known_fields_at, nothing_known}
 
 -- a cell and what is known after it, and what follows it
 unfoldable pub cell_at : KnownState → List ℕ → Result ((SlotEntry × KnownState) × List ℕ) CodecFault
 cell_at k bytes = do
-  steps ← steps_at bytes
-  fields ← known_fields k steps.0
-  cell ← cell_of fields
-  Ok ((cell, known_after k fields), steps.1)
+  fields ← known_fields_at k bytes
+  cell ← cell_of fields.0
+  Ok ((cell, known_after k fields.0), fields.1)
 
 -- n cells, and what follows them
 unfoldable pub cells_at : KnownState → ℕ → List ℕ → Result (List SlotEntry × List ℕ) CodecFault

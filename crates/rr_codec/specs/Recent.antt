@@ -2,13 +2,13 @@
 -- first and each origin once, and where among them the origin of the cell before was.
 use Rattle.std.specs.Prelude.{ℕ, Bool, ◌==◌, not, List, [], ◌∷◌, get_or, take, Result, Ok}
 use Rattle.std.specs.List.{position_or_len, remove}
-use Rattle.rr_text.specs.Results.{unless}
+use Rattle.rr_text.specs.Results.{◌>>=◌, unless}
 use Rattle.rr_codec.specs.declared.expecting.Before.{Before}
 use Rattle.rr_codec.specs.declared.fields.Fields.{Fields}
 use Rattle.rr_codec.specs.declared.fault.CodecFault.{CodecFault}
 use Rattle.rr_codec.specs.declared.fault.CodecFault.TheVariants.{BadNumber}
 use Rattle.rr_codec.specs.declared.steps.Steps.{Steps}
-use Rattle.rr_codec.specs.Steps.{step_to, step_from}
+use Rattle.rr_codec.specs.Steps.{step_to, step_from, steps_at}
 use Rattle.rr_codec.specs.Expecting.{after, fields_from, start, steps_to}
 
 pub record KnownState : Type 0 where
@@ -46,6 +46,13 @@ fields_at k place steps =
 -- the fields that steps lead to
 unfoldable pub known_fields : KnownState → Steps → Result Fields CodecFault
 known_fields k steps = fields_at k (step_from k.place steps.place) steps.fields
+
+-- the fields of a cell, and what follows it
+unfoldable pub known_fields_at : KnownState → List ℕ → Result (Fields × List ℕ) CodecFault
+known_fields_at k bytes = do
+  steps ← steps_at bytes
+  fields ← known_fields k steps.0
+  Ok (fields, steps.1)
 
 -- the list without what is at a place, cut to 15
 abbrev pub others : List Before → ℕ → List Before

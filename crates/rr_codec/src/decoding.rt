@@ -9,7 +9,6 @@ use crate::fault::CodecFault;
 use crate::fields::cell_of;
 use crate::number::number_at;
 use crate::recent::Known;
-use crate::steps::steps_at;
 use rr_archive::Entry;
 use std::alloc::{AllocError, Global};
 
@@ -25,8 +24,7 @@ pub(crate) fn cell_at<'a>(
     ensures read { Finds (λ x. ((x.0, known.new), x.1.now)) result (cell_at known.old bytes.now) }
     ensures kept { OnErr result (known.new ≡ known.old) }
 {
-    let (steps, rest) = steps_at(bytes)?;
-    let fields = known.fields_from(&steps)?;
+    let (fields, rest) = known.fields_at(bytes)?;
     let cell = cell_of(&fields)?;
     known.add(&fields);
     Ok((cell, rest))

@@ -39,7 +39,10 @@ fn push_cell(bytes: &mut Vec<u8>, known: &mut Known, cell: &(i64, Entry)) -> Res
     ensures typed { OnOk result (IsTyped cell.now) }
 {
     let fields = fields_of(cell);
-    push_steps(bytes, &known.steps_to(&fields))?;
+    match known.regular_steps_to(&fields) {
+        Some(steps) => steps.push_to(bytes)?,
+        None => push_steps(bytes, &known.steps_to(&fields))?,
+    }
     known.add(&fields);
     Ok(())
 }

@@ -1,11 +1,13 @@
 //! Which fields a cell is expected to have.
 //!
 //! Sums, products and differences wrap: only the number of bytes depends on them.
-ghost use Rattle.std.specs.Prelude.{◌≡◌};
+ghost use Rattle.std.specs.Prelude.{◌≡◌, IfSome, IsTrue};
 ghost use Rattle.rr_codec.specs.Expecting.{start, expected_version, expected_time, expected_min, expected_max, expected_sum, steps_to, fields_from, after};
+ghost use Rattle.rr_codec.specs.Regular.{all_steps, GoesOn};
 
 use crate::fields::Fields;
-use crate::step::{step_from, step_to};
+use crate::regular::RegularSteps;
+use crate::step::{is_expected, step_from, step_to};
 
 /// What the next cell of an origin is expected by.
 #[derive(Clone, Copy)]
@@ -14,6 +16,18 @@ pub(crate) struct Before {
     pub(crate) cell: Fields,
     /// How much greater its version was than that of the one before.
     pub(crate) stride: u128,
+}
+
+/// Whether a cell is of the same origin as another, in the next slot, of as many samples at the same
+/// places.
+#[inline(always)]
+fn goes_on(before: &Fields, cell: &Fields) -> bool
+    ensures { IsTrue result → GoesOn before.now cell.now }
+{
+    is_expected(before.slot.wrapping_add(1), cell.slot)
+        && is_expected(before.origin, cell.origin)
+        && is_expected(before.count, cell.count)
+        && is_expected(before.mask, cell.mask)
 }
 
 impl Default for Before {
@@ -51,6 +65,7 @@ impl Before {
     }
 
     /// The last time: at the same moment of its row.
+    #[inline(always)]
     #[tactic(auto, unfolding(crate::specs::Expecting::expected_time))]
     fn expected_time(&self, span: u128, slot: u128) -> u128
         ensures { result ≡ expected_time span self.now slot }
@@ -99,10 +114,34 @@ impl Before {
         }
     }
 
+    /// The steps to a regular cell; none to another one.
+    #[inline(always)]
+    pub(crate) fn regular_steps_to(&self, span: u128, cell: &Fields) -> Option<RegularSteps>
+        ensures steps { IfSome result
+            (λ steps. steps_to span self.now cell.now ≡ (all_steps steps).fields) }
+        ensures origin { IfSome result (λ _. cell.now.origin ≡ self.now.cell.origin) }
+    {
+        let before = &self.cell;
+        if !goes_on(before, cell) {
+            return None;
+        }
+        let sum = expected_sum(cell.count, cell.min, cell.max);
+        Some(RegularSteps {
+            last_value: step_to(before.last_value, cell.last_value),
+            version: step_to(self.expected_version(), cell.version),
+            last_time: step_to(self.expected_time(span, cell.slot), cell.last_time),
+            min: step_to(self.expected_min(cell.last_value), cell.min),
+            max: step_to(self.expected_max(cell.last_value), cell.max),
+            sum: step_to(sum, cell.sum),
+        })
+    }
+
     /// The fields that steps lead to.
+    #[inline(always)]
     #[tactic(auto, unfolding(crate::specs::Expecting::fields_from))]
     pub(crate) fn fields_from(&self, span: u128, steps: &Fields) -> Fields
-        ensures { result ≡ fields_from span self.now steps.now }
+        ensures fields { result ≡ fields_from span self.now steps.now }
+        ensures origin { steps.now.origin ≡ 0 → result.origin ≡ self.now.cell.origin }
     {
         let before = &self.cell;
         let slot = step_from(before.slot.wrapping_add(1), steps.slot);

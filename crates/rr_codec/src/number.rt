@@ -1,6 +1,6 @@
 //! Numbers as bytes: seven bits each, the lowest first; the highest bit is set in each but the
 //! last.
-ghost use Rattle.std.specs.Prelude.{◌≡◌, ◌≤◌, ◌++◌, OnOk};
+ghost use Rattle.std.specs.Prelude.{◌≡◌, ◌<◌, ◌++◌, IfSome, Ok, OnOk};
 ghost use Rattle.rr_codec.specs.Fault.{Finds};
 ghost use Rattle.rr_codec.specs.Numbers.{is_bad_high, number_text, number_within, number_at};
 
@@ -12,8 +12,8 @@ const MOST: u32 = 19;
 
 const _: () = prove!(MOST == 19);
 
-/// Adds a number.
-pub(crate) fn push_number(bytes: &mut Vec<u8>, number: u128) -> Result<(), AllocError>
+/// Adds a number, as [`push_number`] does.
+fn push_bytes(bytes: &mut Vec<u8>, number: u128) -> Result<(), AllocError>
     ensures { OnOk result (bytes.new.items ≡ bytes.old.items ++ number_text number) }
 {
     let mut rest = number;
@@ -27,6 +27,18 @@ pub(crate) fn push_number(bytes: &mut Vec<u8>, number: u128) -> Result<(), Alloc
     }
     bytes.push(rest as u8)?;
     Ok(())
+}
+
+/// Adds a number. Most have one byte.
+#[inline(always)]
+pub(crate) fn push_number(bytes: &mut Vec<u8>, number: u128) -> Result<(), AllocError>
+    ensures { OnOk result (bytes.new.items ≡ bytes.old.items ++ number_text number) }
+{
+    if number < 128 {
+        bytes.push(number as u8)?;
+        return Ok(());
+    }
+    push_bytes(bytes, number)
 }
 
 /// Whether no number of 128 bits has these bits above its lowest seven.
@@ -56,9 +68,41 @@ fn number_within(bytes: &[u8], most: u32) -> Result<(u128, &[u8]), CodecFault>
     Ok((128 * high + u128::from(*byte - 128), rest))
 }
 
-/// A number of 128 bits, and what follows it.
+/// A number of one byte, and what follows it.
+#[inline(always)]
+pub(crate) fn byte_at(bytes: &[u8]) -> Option<(u8, &[u8])>
+    ensures small { IfSome result (λ x. x.0 < 128) }
+    ensures read { IfSome result (λ x. number_at bytes.now ≡ Ok (x.0, x.1.now)) }
+{
+    match bytes.split_first() {
+        Some((byte, rest)) if *byte < 128 => Some((*byte, rest)),
+        _ => None,
+    }
+}
+
+/// A number of two bytes, and what follows it.
+#[inline(always)]
+fn two_bytes_at(bytes: &[u8]) -> Option<(u16, &[u8])>
+    ensures { IfSome result (λ x. number_at bytes.now ≡ Ok (x.0, x.1.now)) }
+{
+    let (low, rest) = bytes.split_first()?;
+    let (high, rest) = rest.split_first()?;
+    if *low < 128 || *high >= 128 || *high == 0 {
+        return None;
+    }
+    Some((128 * u16::from(*high) + u16::from(*low - 128), rest))
+}
+
+/// A number of 128 bits, and what follows it. Most have one byte or two.
+#[inline(always)]
 pub(crate) fn number_at(bytes: &[u8]) -> Result<(u128, &[u8]), CodecFault>
     ensures { Finds (λ x. (x.0, x.1.now)) result (number_at bytes.now) }
 {
-    number_within(bytes, MOST)
+    match byte_at(bytes) {
+        Some((byte, rest)) => Ok((u128::from(byte), rest)),
+        None => match two_bytes_at(bytes) {
+            Some((number, rest)) => Ok((u128::from(number), rest)),
+            None => number_within(bytes, MOST),
+        },
+    }
 }

@@ -1,14 +1,16 @@
 //! What is known before a cell.
-ghost use Rattle.std.specs.Prelude.{◌≡◌, ◌∷◌, ◌<◌, length};
+ghost use Rattle.std.specs.Prelude.{◌≡◌, IfSome, Ok};
 ghost use Rattle.std.specs.List.{position_from};
 ghost use Rattle.rr_codec.specs.Fault.{Finds};
-ghost use Rattle.rr_codec.specs.Recent.{before_at, fields_at, is_of, known_after, known_fields, known_steps, nothing_known, others, place_of};
+ghost use Rattle.rr_codec.specs.Recent.{before_at, fields_at, is_of, known_after, known_fields, known_fields_at, known_steps, nothing_known, others, place_of};
+ghost use Rattle.rr_codec.specs.Regular.{all_steps, IsLast};
 
 use crate::expecting::Before;
 use crate::fault::CodecFault;
 use crate::fields::Fields;
+use crate::regular::{RegularSteps, regular_at};
 use crate::step::{step_from, step_to};
-use crate::steps::Steps;
+use crate::steps::{Steps, steps_at};
 use arrayvec::ArrayVec;
 use std::marker::Model;
 
@@ -96,16 +98,70 @@ impl Known {
         ensures { result ≡ known_steps self.now cell.now }
     {
         let place = place_of(&self.recent, cell.origin);
-        let before = before_at(&self.recent, place);
+        let fields = match self.recent.get(place) {
+            Some(before) => before.steps_to(self.span, cell),
+            None => Before::start().steps_to(self.span, cell),
+        };
         Steps {
             place: step_to(self.place as u128, place as u128),
-            fields: before.steps_to(self.span, cell),
+            fields,
+        }
+    }
+
+    /// What the next cell is expected by, if it is expected to be of the origin of the last one.
+    fn regular(&self) -> Option<&Before>
+        ensures { IfSome result (λ before. IsLast self.now before.now) }
+    {
+        if self.place != 0 {
+            return None;
+        }
+        self.recent.first()
+    }
+
+    /// The steps to a regular cell; none to another one.
+    #[inline(always)]
+    pub(crate) fn regular_steps_to(&self, cell: &Fields) -> Option<RegularSteps>
+        ensures { IfSome result (λ steps. known_steps self.now cell.now ≡ all_steps steps) }
+    {
+        let before = self.regular()?;
+        let steps = before.regular_steps_to(self.span, cell)?;
+        Some(steps)
+    }
+
+    /// The fields of a regular cell, and what follows it; none of another one, or at a fault.
+    #[inline(always)]
+    fn regular_fields_at<'a>(&self, bytes: &'a [u8]) -> Option<(Fields, &'a [u8])>
+        ensures { IfSome result (λ x. known_fields_at self.now bytes.now ≡ Ok (x.0, x.1.now)) }
+    {
+        let before = self.regular()?;
+        let (steps, rest) = regular_at(bytes)?;
+        Some((before.fields_from(self.span, &steps.fields()), rest))
+    }
+
+    /// The fields of a cell, and what follows it, by all that is known.
+    #[tactic(auto, unfolding(crate::specs::Recent::known_fields_at))]
+    fn any_fields_at<'a>(&self, bytes: &'a [u8]) -> Result<(Fields, &'a [u8]), CodecFault>
+        ensures { Finds (λ x. (x.0, x.1.now)) result (known_fields_at self.now bytes.now) }
+    {
+        let (steps, rest) = steps_at(bytes)?;
+        let fields = self.fields_from(&steps)?;
+        Ok((fields, rest))
+    }
+
+    /// The fields of a cell, and what follows it.
+    #[inline(always)]
+    pub(crate) fn fields_at<'a>(&self, bytes: &'a [u8]) -> Result<(Fields, &'a [u8]), CodecFault>
+        ensures { Finds (λ x. (x.0, x.1.now)) result (known_fields_at self.now bytes.now) }
+    {
+        match self.regular_fields_at(bytes) {
+            Some(found) => Ok(found),
+            None => self.any_fields_at(bytes),
         }
     }
 
     /// The fields that steps lead to from what is expected at a place, which has to be that of
     /// their origin.
-    fn fields_at(&self, place: usize, steps: &Fields) -> Result<Fields, CodecFault>
+    fn fields_from_place(&self, place: usize, steps: &Fields) -> Result<Fields, CodecFault>
         ensures { Finds (λ f. f) result (fields_at self.now place steps.now) }
     {
         let cell = before_at(&self.recent, place).fields_from(self.span, steps);
@@ -117,19 +173,19 @@ impl Known {
 
     /// The fields that steps lead to.
     #[tactic(auto, unfolding(crate::specs::Recent::known_fields))]
-    pub(crate) fn fields_from(&self, steps: &Steps) -> Result<Fields, CodecFault>
+    fn fields_from(&self, steps: &Steps) -> Result<Fields, CodecFault>
         ensures { Finds (λ f. f) result (known_fields self.now steps.now) }
     {
         match usize::try_from(step_from(self.place as u128, steps.place)) {
-            Ok(place) => self.fields_at(place, &steps.fields),
+            Ok(place) => self.fields_from_place(place, &steps.fields),
             // No origin is so far behind.
             Err(_) => Err(CodecFault::BadNumber),
         }
     }
 
-    /// Adds a cell.
+    /// Adds a cell of another origin than the one before it has.
     #[tactic(auto, unfolding(crate::specs::Recent::known_after))]
-    pub(crate) fn add(&mut self, cell: &Fields)
+    fn add_other(&mut self, cell: &Fields)
         ensures { self.new ≡ known_after self.old cell.now }
     {
         let place = place_of(&self.recent, cell.origin);
@@ -137,5 +193,20 @@ impl Known {
         take_out(&mut self.recent, place);
         self.recent.insert(0, next);
         self.place = place;
+    }
+
+    /// Adds a cell.
+    #[inline(always)]
+    pub(crate) fn add(&mut self, cell: &Fields)
+        ensures { self.new ≡ known_after self.old cell.now }
+    {
+        if let Some(last) = self.recent.first_mut() {
+            if last.cell.origin == cell.origin {
+                *last = last.after(cell);
+                self.place = 0;
+                return;
+            }
+        }
+        self.add_other(cell);
     }
 }

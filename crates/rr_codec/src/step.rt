@@ -1,5 +1,5 @@
 //! Steps from expected numbers to others, up or down, as numbers from 0 on.
-ghost use Rattle.std.specs.Prelude.{◌≡◌};
+ghost use Rattle.std.specs.Prelude.{◌≡◌, IsTrue};
 ghost use Rattle.rr_codec.specs.Steps.{zigzag, unzigzag, step_to, step_from};
 
 /// A difference, where those just below 0 are small too: 0, up 1 as 2, down 1 as 1, and so on.
@@ -24,18 +24,37 @@ fn unzigzag(step: u128) -> u128
     }
 }
 
+/// Whether a number is the expected one, to which the step is 0.
+#[inline(always)]
+#[tactic(auto, unfolding(crate::specs::Steps::step_to))]
+pub(crate) fn is_expected(expected: u128, number: u128) -> bool
+    ensures same { IsTrue result → number ≡ expected }
+    ensures step { IsTrue result → step_to expected number ≡ 0 }
+{
+    number == expected
+}
+
 /// The step from an expected number to another.
+#[inline(always)]
 #[tactic(auto, unfolding(crate::specs::Steps::step_to))]
 pub(crate) fn step_to(expected: u128, number: u128) -> u128
     ensures { result ≡ step_to expected number }
 {
+    if number == expected {
+        return 0;
+    }
     zigzag(number.wrapping_sub(expected))
 }
 
 /// The number that a step leads to.
+#[inline(always)]
 #[tactic(auto, unfolding(crate::specs::Steps::step_from))]
 pub(crate) fn step_from(expected: u128, step: u128) -> u128
-    ensures { result ≡ step_from expected step }
+    ensures value { result ≡ step_from expected step }
+    ensures none { step ≡ 0 → result ≡ expected }
 {
+    if step == 0 {
+        return expected;
+    }
     expected.wrapping_add(unzigzag(step))
 }

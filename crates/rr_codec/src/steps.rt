@@ -23,16 +23,16 @@ const MAX_FLAGS: u128 = 2_047;
 const _: () = prove!(MAX_FLAGS == 2_047);
 
 /// The flag of a step in front of others.
-fn flagged(step: u128, others: u128) -> u128
-    requires { others < 2 ^ 127 }
+pub(crate) fn flagged(step: u128, others: u32) -> u32
+    requires { others < 2 ^ 31 }
     ensures value { result ≡ flagged step others }
     ensures small { result ≤ 1 + 2 * others }
 {
-    u128::from(step != 0) + 2 * others
+    u32::from(step != 0) + 2 * others
 }
 
 /// Which steps are not 0.
-fn flags_of(steps: &Steps) -> u128
+fn flags_of(steps: &Steps) -> u32
     ensures { result ≡ flags_of steps.now }
 {
     let fields = &steps.fields;
@@ -50,7 +50,7 @@ fn flags_of(steps: &Steps) -> u128
 }
 
 /// Adds a step, if it isn't 0.
-fn push_step(bytes: &mut Vec<u8>, step: u128) -> Result<(), AllocError>
+pub(crate) fn push_step(bytes: &mut Vec<u8>, step: u128) -> Result<(), AllocError>
     ensures { OnOk result (bytes.new.items ≡ bytes.old.items ++ step_text step) }
 {
     if step == 0 {
@@ -65,7 +65,7 @@ pub(crate) fn push_steps(bytes: &mut Vec<u8>, steps: &Steps) -> Result<(), Alloc
     ensures { OnOk result (bytes.new.items ≡ bytes.old.items ++ steps_text steps.now) }
 {
     let fields = &steps.fields;
-    push_number(bytes, flags_of(steps))?;
+    push_number(bytes, u128::from(flags_of(steps)))?;
     push_step(bytes, fields.last_value)?;
     push_step(bytes, fields.version)?;
     push_step(bytes, fields.last_time)?;
@@ -80,7 +80,7 @@ pub(crate) fn push_steps(bytes: &mut Vec<u8>, steps: &Steps) -> Result<(), Alloc
 }
 
 /// A step by its flag, the first of these, the other flags, and what follows it.
-fn step_at(flags: u128, bytes: &[u8]) -> Result<(u128, u128, &[u8]), CodecFault>
+fn step_at(flags: u32, bytes: &[u8]) -> Result<(u128, u32, &[u8]), CodecFault>
     ensures { Finds (λ x. (x.0, x.1, x.2.now)) result (step_at flags bytes.now) }
 {
     if flags % 2 == 0 {
@@ -94,14 +94,14 @@ fn step_at(flags: u128, bytes: &[u8]) -> Result<(u128, u128, &[u8]), CodecFault>
 }
 
 /// Flags of eleven steps, and what follows them.
-fn flags_at(bytes: &[u8]) -> Result<(u128, &[u8]), CodecFault>
+fn flags_at(bytes: &[u8]) -> Result<(u32, &[u8]), CodecFault>
     ensures { Finds (λ x. (x.0, x.1.now)) result (flags_at bytes.now) }
 {
     let (flags, rest) = number_at(bytes)?;
     if flags > MAX_FLAGS {
         return Err(CodecFault::BadNumber);
     }
-    Ok((flags, rest))
+    Ok((flags as u32, rest))
 }
 
 /// Eleven steps, and what follows them.

@@ -10,7 +10,7 @@ unfolding steps_text
 returns c =
     let s = c.args.steps.now in
     let flags = c.in_ok-push_number.ensures
-    ∙ ap (λ (n : ℕ). c.args.bytes.now.items ++ number_text n) c.flags_of.ensures in
+    ∙ ap (λ (n : ℕ). c.args.bytes.now.items ++ number_text n) (c.from.ensures ∙ c.flags_of.ensures) in
     let s1 = c.in_ok-push_step.ensures ∙ ap (λ (l : List ℕ). l ++ step_text s.fields.last_value) flags in
     let s2 = c.in_ok-push_step-2.ensures ∙ ap (λ (l : List ℕ). l ++ step_text s.fields.version) s1 in
     let s3 = c.in_ok-push_step-3.ensures ∙ ap (λ (l : List ℕ). l ++ step_text s.fields.last_time) s2 in

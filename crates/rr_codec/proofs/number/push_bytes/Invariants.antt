@@ -1,6 +1,6 @@
 use Rattle.std.proofs.Common.{◌≡◌, ◌-◌, ◌^◌, ◌<◌, ◌++◌}
 use Rattle.rr_codec.specs.Numbers.{number_text_within, number_text}
-use Rattle.rr_codec.proofs.number.push_number.Given as goal
+use Rattle.rr_codec.proofs.number.push_bytes.Given as goal
 
 abbrev pub invariant-loop : goal.invariant-loop
 invariant-loop l = record {
