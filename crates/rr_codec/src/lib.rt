@@ -8,8 +8,9 @@
 //! fields that were read already let each of them be expected as some number (`expecting`,
 //! `recent`); the step from there, up or down, is what is written (`step`). What is expected
 //! decides how many bytes a cell takes, and never which cell is read: a step leads from any
-//! expected number to any other (`regular` has the cells that most are, for speed). So cells whose times, numbers and values go on as before take few
-//! bytes, and any others little more than their fields have.
+//! expected number to any other. So cells whose times, numbers and values go on as before take few
+//! bytes, and any others little more than their fields have. The cells that go on as most do have
+//! a short way of their own (`regular`).
 //!
 //! In `specs/` the text of some cells is a function of them and of the span that their writer took
 //! (`specs/Text.antt`), and the reading one of the bytes, to the first fault from left to right
