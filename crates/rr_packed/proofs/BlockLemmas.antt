@@ -18,7 +18,7 @@ use Rattle.rr_packed.proofs.SparseLemmas.{item_found, item_set, place_tells}
 use Rattle.rr_packed.specs.Sparse.{has_room as has_spare}
 use Rattle.rr_packed.specs.declared.sparse.Sparse.{Sparse}
 use Rattle.rr_packed.specs.LoneSamples.{entries_read}
-use Rattle.rr_packed.specs.Blocks.{items_held, items_in, room_held, has_room_in, IsRowSet}
+use Rattle.rr_packed.specs.BlockRows.{items_held, items_in, room_held, has_room_in, IsRowSet}
 
 pub none_read : (s : Option Source) → entries_read s None ≡ []
 none_read None = refl
@@ -257,3 +257,23 @@ block_copied old new source mask samples rows_mask rows = λ i n. (
 
 pub same_length : (xs ys : List Entries) → map items_of xs ≡ map items_of ys → length xs ≡ length ys
 same_length xs ys e = sym (length-map xs items_of) ∙ ap length e ∙ length-map ys items_of
+
+-- ---- blocks whose rows are lone samples
+
+none_among : (mask n : ℕ) → item_at {T = Entries} mask [] n ≡ None
+unfolding item_at
+none_among mask n =
+    let none_of : List Entries = [] in
+    elim (place_at mask n) as (λ o. option_and_then (slice_get none_of) o ≡ None) [
+      | None ↦ refl
+      | Some at ↦ refl
+    ]
+
+pub samples_alike : (old new : Block) → old.rows.items.items ≡ [] → new.rows.items.items ≡ []
+    → new.source ≡ old.source → new.samples.mask ≡ old.samples.mask
+    → new.samples.items.items ≡ old.samples.items.items → items_in new ≡ items_in old
+samples_alike old new was is source mask samples = block_same old new
+    (λ n. none new n is ∙ sym (none old n was)) source (λ n i. item_at (mask i) (samples i) n)
+  where
+    none : (b : Block) (n : ℕ) → b.rows.items.items ≡ [] → item_in b.rows n ≡ None
+    none b n e = ap (λ (l : List Entries). item_at b.rows.mask l n) e ∙ none_among b.rows.mask n

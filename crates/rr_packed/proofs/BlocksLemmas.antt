@@ -19,7 +19,8 @@ use Rattle.rr_archive.specs.Changes.{entry_after}
 use Rattle.rr_packed.specs.declared.held_block.HeldBlock.{HeldBlock}
 use Rattle.rr_packed.specs.declared.blocks.Blocks.{Blocks}
 use Rattle.rr_packed.specs.Slots.{block_of, row_of}
-use Rattle.rr_packed.specs.Blocks.{all_blocks, held, is_shared, stored, stored_in, IsRowSet, block_at, items_of_block, items_by_slot, has_room_held, block_has_room, has_room_at, starts_before, IsBlockSet, IsSlotSet}
+use Rattle.rr_packed.specs.BlockRows.{IsRowSet}
+use Rattle.rr_packed.specs.Blocks.{all_blocks, held, is_shared, stored, stored_in, block_at, items_of_block, items_by_slot, has_room_held, block_has_room, has_room_at, starts_before, IsBlockSet, IsSlotSet}
 use Rattle.rr_packed.proofs.SlotLemmas.{same_slot_by, block_on, row_on, before_block, earlier_block}
 
 same_number : (a b : ℤ) → is_at (int_cmp a) b ≡ true → a ≡ b

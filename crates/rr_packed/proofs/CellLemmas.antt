@@ -11,7 +11,7 @@ use Rattle.rr_archive.specs.Cells.{cell_of}
 use Rattle.rr_archive.specs.LiveRows.{cells_from}
 use Rattle.rr_archive.proofs.RowCells.{row_cells}
 use Rattle.rr_archive.proofs.LiveWalks.{cells_left, left_step}
-use Rattle.rr_packed.specs.Blocks.{entries_in_all}
+use Rattle.rr_packed.specs.BlockRows.{entries_in_all}
 use Rattle.rr_packed.proofs.CountLemmas.{in_all_none, in_all_more, left_in_all}
 
 in_first : {T : Type 0} (xs ys : List T) (i : ℕ) → i < length xs → slice_get (xs ++ ys) i ≡ slice_get xs i

@@ -19,7 +19,7 @@ use Rattle.rr_packed.specs.declared.lone_sample.LoneSample.{LoneSample}
 use Rattle.rr_packed.specs.declared.lone_sample.Source.{Source}
 use Rattle.rr_packed.specs.Sparse.{rank, item_in}
 use Rattle.rr_packed.specs.LoneSamples.{entries_read}
-use Rattle.rr_packed.specs.Blocks.{items_in, entries_in_all}
+use Rattle.rr_packed.specs.BlockRows.{items_in, entries_in_all}
 use Rattle.rr_packed.proofs.RankLemmas.{rank_more, rank_le, rank_within}
 use Rattle.rr_packed.proofs.SparseLemmas.{item_none, item_found, item_bit, one_of, place_none, place_set}
 use Rattle.rr_packed.proofs.BlockLemmas.{items_by_entries, items_by_sample}

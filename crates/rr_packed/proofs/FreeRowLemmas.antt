@@ -1,7 +1,7 @@
 -- Rows that are held neither as a lone sample nor as entries.
 use Rattle.std.proofs.Common.{◌≡◌, ℕ, []}
 use Rattle.rr_packed.specs.declared.block.Block.{Block}
-use Rattle.rr_packed.specs.Blocks.{items_in, IsUnheld}
+use Rattle.rr_packed.specs.BlockRows.{items_in, IsUnheld}
 use Rattle.rr_packed.proofs.SparseLemmas.{item_none}
 use Rattle.rr_packed.proofs.BlockLemmas.{items_none}
 

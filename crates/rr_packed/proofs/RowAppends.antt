@@ -5,7 +5,7 @@ use Rattle.std.proofs.lemmas.Bool.{cases_eq, eq-eqb, ne_eqb}
 use Rattle.std.proofs.lemmas.Int.{ints}
 use Rattle.rr_archive.specs.declared.entry.Entry.{Entry}
 use Rattle.rr_codec.specs.Fields.{SlotEntry}
-use Rattle.rr_packed.specs.Blocks.{IsRowSet}
+use Rattle.rr_packed.specs.BlockRows.{IsRowSet}
 use Rattle.rr_packed.specs.PackedRows.{entries_at}
 use Rattle.rr_packed.proofs.RowCellLemmas.{at_first, at_other}
 

@@ -4,7 +4,7 @@ use Rattle.std.proofs.lemmas.List.{length-append, length-map}
 use Rattle.std.proofs.lemmas.Int.{ints}
 use Rattle.rr_archive.specs.declared.entry.Entry.{Entry}
 use Rattle.rr_codec.specs.Fields.{SlotEntry}
-use Rattle.rr_packed.specs.Blocks.{entries_in_all}
+use Rattle.rr_packed.specs.BlockRows.{entries_in_all}
 use Rattle.rr_packed.specs.PackedRows.{cells_of_rows, is_on}
 use Rattle.rr_packed.proofs.CountLemmas.{in_all_none, in_all_more}
 use Rattle.rr_packed.proofs.RowCellLemmas.{row_cells, no_rows, first_row, rows_split, rows_more}

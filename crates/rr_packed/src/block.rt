@@ -1,27 +1,25 @@
 //! The rows of 64 slots that follow one another.
-ghost use Rattle.std.specs.Prelude.{◌≡◌, ◌+◌, ◌-◌, ◌++◌, ◌≤ℤ◌, ◌&&◌, ℕ, pos, None, Some, is_some, [], ◌∷◌, IfOk, IfSome, IsTrue, OnOk};
+ghost use Rattle.std.specs.Prelude.{◌≡◌, ◌&&◌, ℕ, None, Some, is_some, [], ◌∷◌, IfOk, IfSome, IsTrue};
 ghost use Rattle.std.specs.Int.{bit_at};
-ghost use Rattle.rr_text.specs.declared.limits.TheConstants.{MAX_SECOND};
 ghost use Rattle.rr_archive.specs.Row.{entry_at, with_entry};
 ghost use Rattle.rr_archive.specs.Changes.{Fits, entry_after};
-ghost use Rattle.rr_archive.specs.Stored.{ChangesStored, MakesRoom, PassesOver};
+ghost use Rattle.rr_archive.specs.Stored.{ChangesStored, MakesRoom};
 ghost use Rattle.rr_packed.specs.Sparse.{place_at, item_in};
 ghost use Rattle.rr_packed.specs.Sparse.{has_room as has_spare};
 ghost use Rattle.rr_packed.specs.LoneSamples.{entries_of, entries_read};
-ghost use Rattle.rr_packed.specs.Blocks.{items_in, has_room_in, entries_in_all, IsRowSet, IsUnheld, SetsSource, Unpacks};
-ghost use Rattle.rr_packed.specs.PackedRows.{cells_of_rows};
+ghost use Rattle.rr_packed.specs.BlockRows.{items_in, has_room_in, IsRowSet, IsUnheld, SetsSource, Unpacks};
 
 mod appending;
+mod comparing;
+mod lookup;
 
 use crate::lone_sample::{LoneSample, Source};
-use crate::mask::{next_on, ones_on};
 use crate::row::Row;
-use crate::row_number::{RowNumber, RowRange};
+use crate::row_number::RowNumber;
 use crate::sparse::Sparse;
 use rr_archive::Entry;
 use rr_archive::change::Change;
 use rr_archive::entries::{Entries, first_entry};
-use rr_archive::row::push_cells;
 use rr_schema::Origin;
 use std::alloc::{AllocError, Global};
 
@@ -89,52 +87,6 @@ impl Block {
         ensures { (number : ℕ) → bit_at result number ≡ 0 → items_in self.now number ≡ [] }
     {
         self.samples.mask | self.rows.mask
-    }
-
-    /// Adds the cells of the rows from one on to a list, those of the slots from one on.
-    pub(crate) fn cells_into(
-        &self,
-        first: RowNumber,
-        slot: i64,
-        run: &mut Vec<(i64, Entry)>,
-    ) -> Result<(), AllocError>
-        requires { slot ≤ℤ pos MAX_SECOND }
-        ensures { OnOk result (run.new.items ≡ run.old.items
-            ++ cells_of_rows (λ i. items_in self.now (first.value + i)) slot (64 - first.value)) }
-    {
-        for i in 0..BLOCK_ROWS - first.value {
-            let row = self.row(RowNumber {
-                value: first.value + i,
-            });
-            push_cells(run, slot + i64::from(i), row.as_slice())?;
-        }
-        Ok(())
-    }
-
-    /// How many numbers on from one the next is that has a row, or the block ends: those between
-    /// have no entry.
-    pub(crate) fn rows_on(&self, number: RowNumber) -> u32
-        ensures { PassesOver 1 (64 - number.value) (λ i. items_in self.now (number.value + i))
-            result }
-    {
-        next_on(self.mask(), number)
-    }
-
-    /// How many entries some rows have in all. Those that are held as samples are counted at once,
-    /// by their bits; others one by one.
-    pub(crate) fn entries_on(&self, rows: RowRange) -> usize
-        ensures { result
-            ≡ entries_in_all (λ i. items_in self.now (rows.first.value + i)) rows.count }
-    {
-        let read = self.samples.mask & !self.rows.mask;
-        let mut count = match self.source {
-            Some(_) => ones_on(read, rows),
-            None => 0,
-        };
-        for entries in self.rows.items_on(rows) {
-            count += entries.as_slice().len();
-        }
-        count
     }
 
     /// Whether a row is held as its entries.

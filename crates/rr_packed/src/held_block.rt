@@ -1,19 +1,20 @@
 //! A block that one archive has, or a finished one that several may share.
-ghost use Rattle.std.specs.Prelude.{◌≡◌, ◌+◌, ◌-◌, ◌++◌, ◌≤◌, ◌≤ℤ◌, ℕ, pos, [], length, slice_get, vec_capacity, IfOk, IfSome, IsOk, IsTrue, OnOk};
+ghost use Rattle.std.specs.Prelude.{◌≡◌, ◌+◌, ◌-◌, ◌++◌, ◌≤◌, ◌≤ℤ◌, ℕ, pos, [], length, slice_get, vec_capacity, IfOk, IsOk, IsTrue, OnOk};
 ghost use Rattle.std.specs.List.{find};
 ghost use Rattle.rr_text.specs.declared.limits.TheConstants.{MAX_SECOND};
 ghost use Rattle.rr_archive.specs.Row.{entry_at, is_after, with_entry};
 ghost use Rattle.rr_archive.specs.Changes.{Fits, entry_after};
 ghost use Rattle.rr_archive.specs.Stored.{ChangesStored, MakesRoom, PassesOver};
-ghost use Rattle.rr_packed.specs.Blocks.{items_in, has_room_in, stored_in, has_room_held, entries_in_all, is_shared, IsRowSet};
-ghost use Rattle.rr_packed.specs.PackedRows.{cells_of_rows, items_packed};
+ghost use Rattle.rr_packed.specs.BlockRows.{entries_in_all, has_room_in, items_in, IsRowSet};
+ghost use Rattle.rr_packed.specs.Blocks.{stored_in, has_room_held, is_shared};
+ghost use Rattle.rr_packed.specs.PackedRows.{cells_of_rows};
 
 use crate::block::Block;
+use crate::finished_rows::FinishedRows;
 use crate::packed_rows::PackedRows;
 use crate::row_number::{RowNumber, RowRange};
 use rr_archive::Entry;
 use rr_archive::change::Change;
-use rr_archive::row::first_after;
 use rr_schema::Origin;
 use std::alloc::{AllocError, Global};
 use std::sync::Arc;
@@ -24,51 +25,56 @@ use std::sync::Arc;
 pub(crate) enum HeldBlock {
     /// The archive alone has it.
     Own(Box<Block>),
+    /// It was finished last, and its rows are held as they came, beside the packed ones. Others may
+    /// have them too.
+    Finished(Arc<FinishedRows>),
     /// It is finished, and its rows are packed. Others may have them too.
-    Shared(Arc<PackedRows>),
+    Packed(Arc<PackedRows>),
 }
 
-/// Packed rows as a block, with room for an entry of an origin in a row.
+/// The rows of a block, in one of an archive's own.
+fn own_copy(held: &HeldBlock, alloc: Global) -> Result<Block, AllocError>
+    ensures { IfOk result (λ new. items_in new ≡ stored_in held.now) }
+{
+    match held {
+        HeldBlock::Own(block) => block.copy(alloc),
+        HeldBlock::Finished(finished) => finished.rows.copy(alloc),
+        HeldBlock::Packed(packed) => packed.unpack(alloc),
+    }
+}
+
+/// The rows of a block in one of an archive's own, with room for an entry of an origin in a row.
 fn copy_with_room(
-    packed: &PackedRows,
+    held: &HeldBlock,
     alloc: Global,
     number: RowNumber,
     origin: Origin,
 ) -> Result<Block, AllocError>
-    ensures same { IfOk result (λ new. items_in new ≡ items_packed packed.now.bytes.items) }
+    ensures same { IfOk result (λ new. items_in new ≡ stored_in held.now) }
     ensures room { IfOk result (λ new. IsTrue (has_room_in new number.value origin)) }
 {
-    let mut own = packed.unpack(alloc)?;
+    let mut own = own_copy(held, alloc)?;
     own.make_room(number, origin)?;
     Ok(own)
 }
 
-/// Packed rows as a block, with the entry of an origin in a row changed.
+/// The rows of a block in one of an archive's own, with the entry of an origin in a row changed.
 fn changed_copy(
-    packed: &PackedRows,
+    held: &HeldBlock,
     alloc: Global,
     number: RowNumber,
     origin: Origin,
     change: &Change,
 ) -> Result<Block, AllocError>
-    requires { Fits (entry_at (items_packed packed.now.bytes.items number.value) origin)
-        change.now }
+    requires { Fits (entry_at (stored_in held.now number.value) origin) change.now }
     ensures { IfOk result (λ new. IsRowSet number.value
-        (with_entry (items_packed packed.now.bytes.items number.value)
-        (entry_after (items_packed packed.now.bytes.items number.value) origin change.now))
-        (items_packed packed.now.bytes.items) (items_in new)) }
+        (with_entry (stored_in held.now number.value)
+        (entry_after (stored_in held.now number.value) origin change.now))
+        (stored_in held.now) (items_in new)) }
 {
-    let mut own = packed.unpack(alloc)?;
+    let mut own = own_copy(held, alloc)?;
     own.change(number, origin, change)?;
     Ok(own)
-}
-
-/// The rows of a block, packed for others to have too; none without memory for that.
-fn shared(alloc: Global, block: &Block) -> Option<Arc<PackedRows>>
-    ensures { IfSome result (λ packed. items_packed packed.value.bytes.items ≡ items_in block.now) }
-{
-    let packed = PackedRows::of(alloc, block)?;
-    Arc::new(alloc, packed).ok()
 }
 
 impl HeldBlock {
@@ -85,7 +91,8 @@ impl HeldBlock {
     {
         match self {
             HeldBlock::Own(_) => false,
-            HeldBlock::Shared(_) => true,
+            HeldBlock::Finished(_) => true,
+            HeldBlock::Packed(_) => true,
         }
     }
 
@@ -97,8 +104,9 @@ impl HeldBlock {
             ≤ vec_capacity row.old → IsOk result }
     {
         match self {
-            HeldBlock::Own(block) => row.extend_from_slice(block.row(number).as_slice()),
-            HeldBlock::Shared(packed) => packed.row_into(number, row),
+            HeldBlock::Own(block) => block.row_into(number, row),
+            HeldBlock::Finished(finished) => finished.rows.row_into(number, row),
+            HeldBlock::Packed(packed) => packed.row_into(number, row),
         }
     }
 
@@ -114,8 +122,9 @@ impl HeldBlock {
             ≡ find (is_after is_later origin) (stored_in self.now number.value) }
     {
         match self {
-            HeldBlock::Own(block) => first_after(block.row(number).as_slice(), is_later, origin),
-            HeldBlock::Shared(packed) => packed.first_after(number, is_later, origin),
+            HeldBlock::Own(block) => block.first_after(number, is_later, origin),
+            HeldBlock::Finished(finished) => finished.rows.first_after(number, is_later, origin),
+            HeldBlock::Packed(packed) => packed.first_after(number, is_later, origin),
         }
     }
 
@@ -124,8 +133,9 @@ impl HeldBlock {
         ensures { result ≡ slice_get (stored_in self.now number.value) i }
     {
         match self {
-            HeldBlock::Own(block) => block.row(number).as_slice().get(i).copied(),
-            HeldBlock::Shared(packed) => packed.nth(number, i),
+            HeldBlock::Own(block) => block.nth(number, i),
+            HeldBlock::Finished(finished) => finished.rows.nth(number, i),
+            HeldBlock::Packed(packed) => packed.nth(number, i),
         }
     }
 
@@ -143,7 +153,8 @@ impl HeldBlock {
     {
         match self {
             HeldBlock::Own(block) => block.cells_into(first, slot, run),
-            HeldBlock::Shared(packed) => packed.cells_into(first, slot, run),
+            HeldBlock::Finished(finished) => finished.rows.cells_into(first, slot, run),
+            HeldBlock::Packed(packed) => packed.cells_into(first, slot, run),
         }
     }
 
@@ -154,7 +165,8 @@ impl HeldBlock {
     {
         match self {
             HeldBlock::Own(block) => block.rows_on(number),
-            HeldBlock::Shared(packed) => packed.rows_on(number),
+            HeldBlock::Finished(finished) => finished.rows.rows_on(number),
+            HeldBlock::Packed(packed) => packed.rows_on(number),
         }
     }
 
@@ -165,12 +177,13 @@ impl HeldBlock {
     {
         match self {
             HeldBlock::Own(block) => block.entries_on(rows),
-            HeldBlock::Shared(packed) => packed.entries_on(rows),
+            HeldBlock::Finished(finished) => finished.rows.entries_on(rows),
+            HeldBlock::Packed(packed) => packed.entries_on(rows),
         }
     }
 
-    /// Makes room for an entry of an origin in a row, in a block of this archive's own. One that is
-    /// shared is unpacked first.
+    /// Makes room for an entry of an origin in a row, in a block of this archive's own. The rows of
+    /// one that is shared are copied first, or unpacked.
     #[inline(always)]
     pub(crate) fn make_room(
         &mut self,
@@ -182,17 +195,16 @@ impl HeldBlock {
             (has_room_held self.new number.value origin) (stored_in self.old) (stored_in self.new)
             result }
     {
-        match self {
-            HeldBlock::Own(block) => block.make_room(number, origin),
-            HeldBlock::Shared(packed) => {
-                let own = copy_with_room(packed, alloc, number, origin)?;
-                *self = HeldBlock::Own(Box::new(alloc, own)?);
-                Ok(())
-            }
+        if let HeldBlock::Own(block) = self {
+            return block.make_room(number, origin);
         }
+        let own = copy_with_room(self, alloc, number, origin)?;
+        *self = HeldBlock::Own(Box::new(alloc, own)?);
+        Ok(())
     }
 
-    /// Changes the entry of an origin in a row. A block that is shared is unpacked first.
+    /// Changes the entry of an origin in a row. The rows of a block that is shared are copied first,
+    /// or unpacked.
     #[inline(always)]
     pub(crate) fn change(
         &mut self,
@@ -207,61 +219,12 @@ impl HeldBlock {
             (has_room_held self.old number.value origin) (stored_in self.old) (stored_in self.new)
             result }
     {
-        match self {
-            HeldBlock::Own(block) => block.change(number, origin, change),
-            HeldBlock::Shared(packed) => {
-                let own = changed_copy(packed, alloc, number, origin, change)?;
-                *self = HeldBlock::Own(Box::new(alloc, own)?);
-                Ok(())
-            }
+        if let HeldBlock::Own(block) = self {
+            return block.change(number, origin, change);
         }
-    }
-
-    /// Makes a block of this archive alone ready to be shared, its rows packed. Answers whether it
-    /// did. Without memory for that the block keeps its rows, and gives back the memory that its
-    /// lists don't need.
-    pub(crate) fn finish(&mut self, alloc: Global) -> bool
-        ensures same { stored_in self.new ≡ stored_in self.old }
-        ensures shared { IsTrue result → IsTrue (is_shared self.new) }
-    {
-        let HeldBlock::Own(block) = self else {
-            return false;
-        };
-        match shared(alloc, block) {
-            Some(packed) => {
-                *self = HeldBlock::Shared(packed);
-                true
-            }
-            None => {
-                block.shrink();
-                false
-            }
-        }
-    }
-
-    /// Shares the block of another archive in place of the own one, if both hold the same rows:
-    /// packs the own one, and compares the bytes. Answers whether it did.
-    pub(crate) fn share(&mut self, alloc: Global, other: &HeldBlock) -> bool
-        ensures same { stored_in self.new ≡ stored_in self.old }
-        ensures shared { IsTrue result → IsTrue (is_shared self.new) }
-    {
-        let HeldBlock::Own(own) = self else {
-            return false;
-        };
-        let HeldBlock::Shared(shared) = other else {
-            return false;
-        };
-        let Some(packed) = PackedRows::of(alloc, own) else {
-            return false;
-        };
-        if !packed.is_same(shared) {
-            return false;
-        }
-        let Ok(further) = Arc::try_clone(shared) else {
-            return false;
-        };
-        *self = HeldBlock::Shared(further);
-        true
+        let own = changed_copy(self, alloc, number, origin, change)?;
+        *self = HeldBlock::Own(Box::new(alloc, own)?);
+        Ok(())
     }
 
     /// The same rows: shared, or copied where the block is of this archive alone.
@@ -271,7 +234,8 @@ impl HeldBlock {
     {
         match self {
             HeldBlock::Own(block) => Ok(HeldBlock::Own(Box::new(alloc, block.copy(alloc)?)?)),
-            HeldBlock::Shared(packed) => Ok(HeldBlock::Shared(Arc::try_clone(packed)?)),
+            HeldBlock::Finished(rows) => Ok(HeldBlock::Finished(Arc::try_clone(rows)?)),
+            HeldBlock::Packed(packed) => Ok(HeldBlock::Packed(Arc::try_clone(packed)?)),
         }
     }
 }

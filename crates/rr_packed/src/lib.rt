@@ -8,7 +8,8 @@
 //!
 //! ```text
 //! a slot ── its block's number ──> an own block ── a bit of its masks ──> a sample, or the entries
-//!                                  a finished one ── its cells from the first on ──> the entries
+//!                                  one that was finished last ── a bit of its mask ──> a sample
+//!                                  any other ── its cells from the first on ──> the entries
 //! ```
 //!
 //! In a block that samples come to, a row of a single sample is held as that sample, a
@@ -17,9 +18,12 @@
 //! of the sample. Any other row is held as its entries.
 //!
 //! A finished block is held as [`PackedRows`](packed_rows::PackedRows): the bytes of its cells, as
-//! `rr_codec` packs them. Archives share it ([`HeldBlock`](held_block::HeldBlock)): one makes its
-//! finished blocks ready, and another takes them in place of its own where both are packed as the
-//! same bytes. A change of a finished block unpacks it.
+//! `rr_codec` packs them. The one that was finished last keeps its rows beside these, as
+//! [`FinishedRows`](finished_rows::FinishedRows), if each is a lone sample. Archives share a
+//! finished block ([`HeldBlock`](held_block::HeldBlock)): one makes its own ready, and another takes
+//! it in place of its own where both have the same rows, or are packed as the same bytes. So rows of
+//! lone samples are packed once for all archives that take them in their turn. A change of a
+//! finished block copies its rows, or unpacks them.
 //!
 //! What is stored of a slot is one function (`specs/Blocks.antt`), and the cells are what it gives
 //! of the live slots, in order.
@@ -28,6 +32,8 @@
 mod block;
 mod blocks;
 mod cells_left;
+mod finished_rows;
+mod finishing;
 mod held_block;
 mod lone_sample;
 mod lookup;

@@ -12,7 +12,7 @@ use rr_text::limits::{MAX_NUMBER, MAX_STEPS};
 use std::mem::size_of;
 
 /// A sample without its origin and its place.
-#[derive(Clone, Copy)]
+#[derive(Clone, Copy, PartialEq, Eq)]
 pub(crate) struct LoneSample {
     pub(crate) number: u64,
     pub(crate) time: i64,
@@ -24,7 +24,7 @@ pub(crate) struct LoneSample {
 const _: () = prove!(size_of::<LoneSample>() == 24);
 
 /// What the samples of a block have in common: their origin, and the place of each in its slot.
-#[derive(Clone, Copy)]
+#[derive(Clone, Copy, PartialEq, Eq)]
 pub(crate) struct Source {
     pub(crate) origin: Origin,
     pub(crate) place: u32,
@@ -42,6 +42,20 @@ fn is_of_one(contribution: &Contribution, source: &Source) -> bool
         && contribution.min == contribution.last_value
         && contribution.max == contribution.last_value
         && contribution.mask == 1 << source.place
+}
+
+/// Whether samples are the same as others.
+pub(crate) fn are_same_samples(samples: &[LoneSample], others: &[LoneSample]) -> bool
+    ensures { IsTrue result → samples.now ≡ others.now }
+{
+    samples == others
+}
+
+/// Whether the source of samples, if there is one, is the same as another.
+pub(crate) fn is_same_source(source: &Option<Source>, other: &Option<Source>) -> bool
+    ensures { IsTrue result → source.now ≡ other.now }
+{
+    source == other
 }
 
 impl LoneSample {

@@ -19,31 +19,34 @@ use std::alloc::{AllocError, Global};
 ///
 /// An own block takes 24 bytes for a row of one sample, and none for a row that no sample came to.
 /// The list of its rows takes memory for 1, 4, 16, 64. A finished block is held as the bytes of its
-/// cells, as `rr_codec` packs them. Either takes 88 bytes beside that, a finished one a few words
-/// more. The newest block is held in place: a series with few rows takes no list of blocks. That of
-/// the older ones takes memory for 1, 2, 4, 8 .. blocks.
+/// cells, as `rr_codec` packs them; the last one keeps its rows beside them, if each is of one
+/// sample. Either takes 88 bytes beside that, a finished one a few words more. The newest block is
+/// held in place: a series with few rows takes no list of blocks. That of the older ones takes
+/// memory for 1, 2, 4, 8 .. blocks.
 ///
 /// `ready`, `put` and `join_cell` find the newest block in one step, and another in a time that is
 /// logarithmic in the blocks; they are linear in the entries of the row, in the rows of its block
 /// that are after it, and in the blocks that are past the horizon then. One that makes a block of
 /// an earlier slot moves the blocks before it, or those after it if these are fewer. One that is of
-/// a finished block unpacks it: that is linear in its cells, and the block is the archive's own
-/// from then on.
+/// a finished block copies its rows, or unpacks them: that is linear in its cells, and the block is
+/// the archive's own from then on.
 ///
 /// `ready` makes room for a row of either kind, and `put` and `join_cell` give back what was made
 /// for entries where a block has none. A row of one sample that is to be changed is held as its
 /// entries from then on, 112 bytes for the first of them.
 ///
-/// `share_rows` packs the block before the newest. With another archive it then compares the bytes
-/// with those of that one's block, and takes these in place of its own where they are the same. It
-/// goes on with the blocks before it, up to one that was finished already or can't be. Without
-/// memory to pack it, a block keeps its rows, and gives back the memory that its lists don't need.
+/// `share_rows` packs the block before the newest, and the one that was packed before it no longer
+/// keeps its rows. With another archive it compares the rows with those of that one's block, and
+/// takes this in place of its own where they are the same; if the other's keeps none, it packs its
+/// own, and compares the bytes. It goes on with the blocks before it, up to one that is packed
+/// already or can't be. Without memory to pack it, a block keeps its rows, and gives back the memory
+/// that its lists don't need.
 ///
-/// `entries_into` finds its block as `put` does. A look into a finished block reads its cells from
-/// the first on. A run of `cells_into` is what is left of a block, or of one that isn't there, or
+/// `entries_into` finds its block as `put` does. A look into packed rows reads the cells from the
+/// first on. A run of `cells_into` is what is left of a block, or of one that isn't there, or
 /// the slots up to the first block. `cell_count` finds each block between the first and the last,
 /// there or not, and is linear in these, in the rows that are held as their entries, and in the
-/// cells of the first block if it is finished. `cell_at` finds the blocks up to that of the cell as
+/// cells of the first block if it is packed. `cell_at` finds the blocks up to that of the cell as
 /// `cell_count` does, and looks at each row before it in that block; `next_cell` looks at the rows
 /// from its slot on that have an entry, and is linear in the blocks between that aren't there, each
 /// at the cost of finding a block.

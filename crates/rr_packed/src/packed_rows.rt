@@ -57,7 +57,7 @@ fn is_in(number: RowNumber, rows: RowRange) -> bool
 }
 
 impl PackedRows {
-    ghost use Rattle.rr_packed.specs.Blocks.{entries_in_all, items_in};
+    ghost use Rattle.rr_packed.specs.BlockRows.{entries_in_all, items_in};
 
     /// The cells of a block, in order of their rows.
     fn cells_of(alloc: Global, block: &Block) -> Result<Vec<(i64, Entry)>, AllocError>

@@ -9,13 +9,26 @@ use std::alloc::{AllocError, Global};
 use std::collections::VecDeque;
 
 /// Makes a block of this archive alone ready to be shared; with another archive's blocks, takes the
-/// one of the same number in its place, if both hold the same rows. Answers whether it did.
-fn share_block(block: &mut HeldBlock, alloc: Global, number: i64, others: Option<&Blocks>) -> bool
+/// one of the same number in its place, if both hold the same rows. One that is ready already, but
+/// isn't the last any more, keeps its packed rows alone. Answers whether it did one of these.
+fn share_block(
+    block: &mut HeldBlock,
+    alloc: Global,
+    number: i64,
+    others: Option<&Blocks>,
+    is_last: bool,
+) -> bool
     ensures same { stored_in block.new ≡ stored_in block.old }
     ensures shared { IsTrue result → IsTrue (is_shared block.new) }
 {
+    if block.is_shared() {
+        if is_last {
+            return false;
+        }
+        return block.keep_packed();
+    }
     match others {
-        None => block.finish(alloc),
+        None => block.finish(alloc, is_last),
         Some(others) => match others.get(number) {
             Some(other) => block.share(alloc, other),
             None => false,
@@ -24,19 +37,18 @@ fn share_block(block: &mut HeldBlock, alloc: Global, number: i64, others: Option
 }
 
 impl Blocks {
-    /// Shares the older blocks as [`share_block`] does one, from the last one back to one that was
-    /// shared, or can't be.
+    /// Shares the older blocks as [`share_block`] does one, from the last one back to one whose
+    /// packed rows are all that is kept, or that can't be shared. So the last one alone keeps its
+    /// rows as they came beside the packed ones.
     pub(crate) fn share(&mut self, others: Option<&Blocks>)
         ensures { row_at self.new ≡ row_at self.old }
     {
         let mut at = self.older.len();
         while at > 0 {
             at -= 1;
-            if self.older[at].1.is_shared() {
-                return;
-            }
+            let is_last = at + 1 == self.older.len();
             let number = self.older[at].0;
-            if !share_block(&mut self.older[at].1, self.alloc, number, others) {
+            if !share_block(&mut self.older[at].1, self.alloc, number, others, is_last) {
                 return;
             }
         }

@@ -1,7 +1,8 @@
 //! Walks over the slots of blocks, which pass over those that store nothing.
 ghost use Rattle.std.specs.Prelude.{◌≡◌, ◌<◌, ◌≤◌, ◌+ℤ◌, ℕ, pos, None, []};
 ghost use Rattle.rr_archive.specs.Stored.{PassesOver};
-ghost use Rattle.rr_packed.specs.Blocks.{all_blocks, block_at, entries_in_all, row_at};
+ghost use Rattle.rr_packed.specs.BlockRows.{entries_in_all};
+ghost use Rattle.rr_packed.specs.Blocks.{all_blocks, block_at, row_at};
 ghost use Rattle.rr_packed.specs.Slots.{block_of};
 
 use crate::blocks::{Blocks, block_of, row_of};

@@ -1,7 +1,7 @@
 //! Entries added behind those of a row, as packed rows are read.
 ghost use Rattle.std.specs.Prelude.{◌≡◌, [], ◌∷◌, ◌++◌, OnOk};
 ghost use Rattle.rr_archive.specs.Entries.{items_of};
-ghost use Rattle.rr_packed.specs.Blocks.{items_in, IsRowSet};
+ghost use Rattle.rr_packed.specs.BlockRows.{items_in, IsRowSet};
 
 use crate::block::Block;
 use crate::row_number::RowNumber;

@@ -13,7 +13,7 @@ use Rattle.rr_packed.specs.declared.sparse.Sparse.{Sparse}
 use Rattle.rr_packed.specs.Sparse.{item_in, IsItemSet}
 use Rattle.rr_packed.specs.Sparse.{has_room as has_spare}
 use Rattle.rr_packed.specs.LoneSamples.{entries_read}
-use Rattle.rr_packed.specs.Blocks.{items_in, IsRowSet, IsUnheld, SetsSource}
+use Rattle.rr_packed.specs.BlockRows.{items_in, IsRowSet, IsUnheld, SetsSource}
 use Rattle.rr_packed.proofs.SparseLemmas.{item_none}
 use Rattle.rr_packed.proofs.BlockLemmas.{block_same, entries_set, sample_added}
 use Rattle.rr_packed.proofs.block.Block.add.Goals as goal

@@ -3,7 +3,7 @@ use Rattle.std.proofs.lemmas.Option.{slice_get_read}
 use Rattle.std.proofs.lemmas.Result.{on_ok_weaker}
 use Rattle.rr_archive.specs.declared.entries.Entries.{Entries}
 use Rattle.rr_archive.specs.Entries.{items_of}
-use Rattle.rr_packed.specs.Blocks.{items_in, IsUnheld}
+use Rattle.rr_packed.specs.BlockRows.{items_in, IsUnheld}
 use Rattle.rr_packed.proofs.BlockLemmas.{entries_changed, found_entries, items_by_entries}
 use Rattle.rr_packed.proofs.FreeRowLemmas.{items_unheld}
 use Rattle.rr_packed.proofs.block.Block.append.Goals as goal

@@ -1,7 +1,7 @@
 use Rattle.std.proofs.Common.{rules, ◌≡◌, ◌+◌, ◌++◌, ℕ, pos, ◌+ℤ◌, map, sym, ap, ◌∙◌, to_z, of_z, w64}
 use Rattle.std.proofs.lemmas.List.{append-nil, append_assoc}
 use Rattle.rr_archive.specs.declared.entry.Entry.{Entry}
-use Rattle.rr_packed.specs.Blocks.{items_in}
+use Rattle.rr_packed.specs.BlockRows.{items_in}
 use Rattle.rr_packed.specs.PackedRows.{cells_of_rows}
 use Rattle.rr_packed.proofs.RowCellLemmas.{no_rows, rows_more}
 use Rattle.rr_packed.proofs.block.Block.cells_into.Goals as goal

@@ -1,5 +1,5 @@
 use Rattle.std.proofs.Common.{◌≡◌, ◌+◌, ◌++◌}
-use Rattle.rr_packed.specs.Blocks.{items_in}
+use Rattle.rr_packed.specs.BlockRows.{items_in}
 use Rattle.rr_packed.specs.PackedRows.{cells_of_rows}
 use Rattle.rr_packed.proofs.block.Block.cells_into.Given as goal
 

@@ -11,7 +11,7 @@ use Rattle.rr_archive.specs.Changes.{Fits, entry_after}
 use Rattle.rr_packed.specs.declared.block.Block.{Block}
 use Rattle.rr_packed.specs.Sparse.{place_at}
 use Rattle.rr_packed.specs.Sparse.{has_room as has_spare}
-use Rattle.rr_packed.specs.Blocks.{items_in, has_room_in, IsUnheld}
+use Rattle.rr_packed.specs.BlockRows.{items_in, has_room_in, IsUnheld}
 use Rattle.rr_packed.proofs.SparseLemmas.{item_none}
 use Rattle.rr_packed.proofs.BlockLemmas.{items_by_entries, found_entries, entries_alike, entries_changed, room_of_entries, room_is_free}
 use Rattle.rr_packed.proofs.FreeRowLemmas.{items_unheld}

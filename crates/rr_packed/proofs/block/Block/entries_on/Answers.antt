@@ -4,7 +4,7 @@ use Rattle.std.proofs.lemmas.List.{take_all, length-take}
 use Rattle.std.proofs.lemmas.List.Sums.{sum_by_more}
 use Rattle.rr_packed.specs.declared.block.Block.{Block}
 use Rattle.rr_packed.specs.Sparse.{rank}
-use Rattle.rr_packed.specs.Blocks.{items_in, entries_in_all}
+use Rattle.rr_packed.specs.BlockRows.{items_in, entries_in_all}
 use Rattle.rr_packed.proofs.RankLemmas.{rank_few, rank_le}
 use Rattle.rr_packed.proofs.CountLemmas.{in_block, count_read, read_alone, len}
 use Rattle.rr_packed.proofs.block.Block.entries_on.Goals as goal

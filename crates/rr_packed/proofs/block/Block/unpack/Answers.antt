@@ -6,7 +6,7 @@ use Rattle.rr_packed.specs.declared.block.Block.{Block}
 use Rattle.rr_packed.specs.declared.sparse.Sparse.{Sparse}
 use Rattle.rr_packed.specs.declared.lone_sample.LoneSample.{LoneSample}
 use Rattle.rr_packed.specs.Sparse.{item_in, place_at, IsItemSet}
-use Rattle.rr_packed.specs.Blocks.{items_in, has_room_in}
+use Rattle.rr_packed.specs.BlockRows.{items_in, has_room_in}
 use Rattle.rr_packed.specs.LoneSamples.{entries_read}
 use Rattle.rr_packed.proofs.SparseLemmas.{item_none, none_from}
 use Rattle.rr_packed.proofs.BlockLemmas.{block_same, sample_removed, room_kept, entries_set, row_set_same, items_by_sample, room_is_free, none_read}

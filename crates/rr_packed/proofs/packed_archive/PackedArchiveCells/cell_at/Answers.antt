@@ -2,7 +2,8 @@ use Rattle.std.proofs.Common.{rules, ◌≡◌, ℕ, ◌+◌, ◌-◌, ◌<◌, 
 use Rattle.std.specs.List.{slice_get}
 use Rattle.std.specs.Option.{option_map}
 use Rattle.rr_archive.specs.Cells.{cell_of}
-use Rattle.rr_packed.specs.Blocks.{row_at, entries_in_all}
+use Rattle.rr_packed.specs.BlockRows.{entries_in_all}
+use Rattle.rr_packed.specs.Blocks.{row_at}
 use Rattle.rr_packed.proofs.CellLemmas.{cell_among, cell_beyond}
 use Rattle.rr_archive.specs.LiveRows.{cells_from}
 use Rattle.rr_archive.proofs.LiveWalks.{cells_left, left_none, entries_live, entries_none}

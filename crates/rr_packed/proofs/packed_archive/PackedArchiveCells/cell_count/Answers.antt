@@ -3,7 +3,8 @@ use Rattle.std.specs.FinMap.{len-entries}
 use Rattle.rr_archive.proofs.FewCells.{few_cells}
 use Rattle.rr_archive.specs.LiveRows.{cells_by}
 use Rattle.rr_archive.proofs.LiveWalks.{cells_left, left_none, entries_live, entries_none}
-use Rattle.rr_packed.specs.Blocks.{row_at, entries_in_all}
+use Rattle.rr_packed.specs.BlockRows.{entries_in_all}
+use Rattle.rr_packed.specs.Blocks.{row_at}
 use Rattle.rr_packed.proofs.CountLemmas.{left_in_all}
 use Rattle.rr_packed.proofs.packed_archive.PackedArchiveCells.cell_count.Goals as goal
 

@@ -1,5 +1,5 @@
 use Rattle.std.proofs.Common.{rules, ◌≡◌, ◌<◌, ◌^◌, length, vec_len, sym, ap, ◌∙◌, Ok, []}
-use Rattle.rr_packed.specs.Blocks.{items_in}
+use Rattle.rr_packed.specs.BlockRows.{items_in}
 use Rattle.rr_packed.proofs.PackingLemmas.{packed_as}
 use Rattle.rr_packed.proofs.packed_rows.PackedRows.of.Goals as goal
 

@@ -1,5 +1,5 @@
 use Rattle.std.proofs.Common.{◌∙◌}
-use Rattle.rr_packed.specs.Blocks.{items_in}
+use Rattle.rr_packed.specs.BlockRows.{items_in}
 use Rattle.rr_packed.specs.PackedRows.{left_of}
 use Rattle.rr_packed.proofs.RowAppends.{row_appended}
 use Rattle.rr_packed.proofs.packed_rows.PackedRows.unpack.Goals as goal

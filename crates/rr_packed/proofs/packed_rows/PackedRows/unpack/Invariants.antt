@@ -1,5 +1,5 @@
 use Rattle.std.proofs.Common.{◌≡◌, ℕ, pos, ◌++◌, length}
-use Rattle.rr_packed.specs.Blocks.{items_in}
+use Rattle.rr_packed.specs.BlockRows.{items_in}
 use Rattle.rr_packed.specs.PackedRows.{entries_at, items_packed, left_of}
 use Rattle.rr_packed.proofs.packed_rows.PackedRows.unpack.Given as goal
 
