@@ -1,18 +1,16 @@
 //! A block that one archive has, or a finished one that several may share.
-ghost use Rattle.std.specs.Prelude.{◌≡◌, ◌+◌, ◌-◌, ◌++◌, ◌≤◌, ◌≤ℤ◌, ℕ, pos, [], length, slice_get, vec_capacity, IfOk, IsOk, IsTrue, OnOk};
-ghost use Rattle.std.specs.List.{find};
-ghost use Rattle.rr_text.specs.declared.limits.TheConstants.{MAX_SECOND};
-ghost use Rattle.rr_archive.specs.Row.{entry_at, is_after, with_entry};
+ghost use Rattle.std.specs.Prelude.{◌≡◌, ℕ, [], IfOk, IsTrue};
+ghost use Rattle.rr_archive.specs.Row.{entry_at, with_entry};
 ghost use Rattle.rr_archive.specs.Changes.{Fits, entry_after};
-ghost use Rattle.rr_archive.specs.Stored.{ChangesStored, MakesRoom, PassesOver};
-ghost use Rattle.rr_packed.specs.BlockRows.{entries_in_all, has_room_in, items_in, IsRowSet};
+ghost use Rattle.rr_archive.specs.Stored.{ChangesStored, MakesRoom};
+ghost use Rattle.rr_packed.specs.BlockRows.{has_room_in, items_in, IsRowSet};
 ghost use Rattle.rr_packed.specs.Blocks.{stored_in, has_room_held, is_shared};
-ghost use Rattle.rr_packed.specs.PackedRows.{cells_of_rows};
 
 use crate::block::Block;
 use crate::finished_rows::FinishedRows;
 use crate::packed_rows::PackedRows;
 use crate::row_number::{RowNumber, RowRange};
+use crate::rows::Rows;
 use rr_archive::Entry;
 use rr_archive::change::Change;
 use rr_schema::Origin;
@@ -96,92 +94,6 @@ impl HeldBlock {
         }
     }
 
-    /// Adds the entries of a row to a list.
-    pub(crate) fn row_into(&self, number: RowNumber, row: &mut Vec<Entry>) -> Result<(), AllocError>
-        ensures added { OnOk result (row.new.items
-            ≡ row.old.items ++ stored_in self.now number.value) }
-        ensures room { length row.old.items + length (stored_in self.now number.value)
-            ≤ vec_capacity row.old → IsOk result }
-    {
-        match self {
-            HeldBlock::Own(block) => block.row_into(number, row),
-            HeldBlock::Finished(finished) => finished.rows.row_into(number, row),
-            HeldBlock::Packed(packed) => packed.row_into(number, row),
-        }
-    }
-
-    /// The first entry of a row, if it is in a later slot than an origin's, or the first after the
-    /// origin in its own.
-    pub(crate) fn first_after(
-        &self,
-        number: RowNumber,
-        is_later: bool,
-        origin: Origin,
-    ) -> Option<Entry>
-        ensures { result
-            ≡ find (is_after is_later origin) (stored_in self.now number.value) }
-    {
-        match self {
-            HeldBlock::Own(block) => block.first_after(number, is_later, origin),
-            HeldBlock::Finished(finished) => finished.rows.first_after(number, is_later, origin),
-            HeldBlock::Packed(packed) => packed.first_after(number, is_later, origin),
-        }
-    }
-
-    /// The entry of a row by its number there, from 0.
-    pub(crate) fn nth(&self, number: RowNumber, i: usize) -> Option<Entry>
-        ensures { result ≡ slice_get (stored_in self.now number.value) i }
-    {
-        match self {
-            HeldBlock::Own(block) => block.nth(number, i),
-            HeldBlock::Finished(finished) => finished.rows.nth(number, i),
-            HeldBlock::Packed(packed) => packed.nth(number, i),
-        }
-    }
-
-    /// Adds the cells of the rows from one on to a list, those of the slots from one on.
-    pub(crate) fn cells_into(
-        &self,
-        first: RowNumber,
-        slot: i64,
-        run: &mut Vec<(i64, Entry)>,
-    ) -> Result<(), AllocError>
-        requires { slot ≤ℤ pos MAX_SECOND }
-        ensures { OnOk result (run.new.items ≡ run.old.items
-            ++ cells_of_rows (λ i. stored_in self.now (first.value + i)) slot
-            (64 - first.value)) }
-    {
-        match self {
-            HeldBlock::Own(block) => block.cells_into(first, slot, run),
-            HeldBlock::Finished(finished) => finished.rows.cells_into(first, slot, run),
-            HeldBlock::Packed(packed) => packed.cells_into(first, slot, run),
-        }
-    }
-
-    /// As `Block::rows_on`.
-    pub(crate) fn rows_on(&self, number: RowNumber) -> u32
-        ensures { PassesOver 1 (64 - number.value) (λ i. stored_in self.now (number.value + i))
-            result }
-    {
-        match self {
-            HeldBlock::Own(block) => block.rows_on(number),
-            HeldBlock::Finished(finished) => finished.rows.rows_on(number),
-            HeldBlock::Packed(packed) => packed.rows_on(number),
-        }
-    }
-
-    /// As `Block::entries_on`.
-    pub(crate) fn entries_on(&self, rows: RowRange) -> usize
-        ensures { result
-            ≡ entries_in_all (λ i. stored_in self.now (rows.first.value + i)) rows.count }
-    {
-        match self {
-            HeldBlock::Own(block) => block.entries_on(rows),
-            HeldBlock::Finished(finished) => finished.rows.entries_on(rows),
-            HeldBlock::Packed(packed) => packed.entries_on(rows),
-        }
-    }
-
     /// Makes room for an entry of an origin in a row, in a block of this archive's own. The rows of
     /// one that is shared are copied first, or unpacked.
     #[inline(always)]
@@ -236,6 +148,63 @@ impl HeldBlock {
             HeldBlock::Own(block) => Ok(HeldBlock::Own(Box::new(alloc, block.copy(alloc)?)?)),
             HeldBlock::Finished(rows) => Ok(HeldBlock::Finished(Arc::try_clone(rows)?)),
             HeldBlock::Packed(packed) => Ok(HeldBlock::Packed(Arc::try_clone(packed)?)),
+        }
+    }
+}
+
+impl Rows for HeldBlock {
+    ghost items = { λ b. stored_in b };
+
+    fn row_into(&self, number: RowNumber, row: &mut Vec<Entry>) -> Result<(), AllocError> {
+        match self {
+            HeldBlock::Own(block) => block.row_into(number, row),
+            HeldBlock::Finished(finished) => finished.rows.row_into(number, row),
+            HeldBlock::Packed(packed) => packed.row_into(number, row),
+        }
+    }
+
+    fn first_after(&self, number: RowNumber, is_later: bool, origin: Origin) -> Option<Entry> {
+        match self {
+            HeldBlock::Own(block) => block.first_after(number, is_later, origin),
+            HeldBlock::Finished(finished) => finished.rows.first_after(number, is_later, origin),
+            HeldBlock::Packed(packed) => packed.first_after(number, is_later, origin),
+        }
+    }
+
+    fn nth(&self, number: RowNumber, i: usize) -> Option<Entry> {
+        match self {
+            HeldBlock::Own(block) => block.nth(number, i),
+            HeldBlock::Finished(finished) => finished.rows.nth(number, i),
+            HeldBlock::Packed(packed) => packed.nth(number, i),
+        }
+    }
+
+    fn cells_into(
+        &self,
+        first: RowNumber,
+        slot: i64,
+        run: &mut Vec<(i64, Entry)>,
+    ) -> Result<(), AllocError> {
+        match self {
+            HeldBlock::Own(block) => block.cells_into(first, slot, run),
+            HeldBlock::Finished(finished) => finished.rows.cells_into(first, slot, run),
+            HeldBlock::Packed(packed) => packed.cells_into(first, slot, run),
+        }
+    }
+
+    fn rows_on(&self, number: RowNumber) -> u32 {
+        match self {
+            HeldBlock::Own(block) => block.rows_on(number),
+            HeldBlock::Finished(finished) => finished.rows.rows_on(number),
+            HeldBlock::Packed(packed) => packed.rows_on(number),
+        }
+    }
+
+    fn entries_on(&self, rows: RowRange) -> usize {
+        match self {
+            HeldBlock::Own(block) => block.entries_on(rows),
+            HeldBlock::Finished(finished) => finished.rows.entries_on(rows),
+            HeldBlock::Packed(packed) => packed.entries_on(rows),
         }
     }
 }

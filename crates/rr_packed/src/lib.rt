@@ -42,6 +42,7 @@ mod packed_archive;
 mod packed_rows;
 mod row;
 mod row_number;
+mod rows;
 mod sharing;
 mod sparse;
 mod walking;

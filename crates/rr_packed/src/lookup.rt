@@ -10,6 +10,7 @@ ghost use Rattle.rr_packed.specs.Blocks.{row_at};
 ghost use Rattle.rr_packed.specs.PackedRows.{cells_of_rows};
 
 use crate::blocks::{Blocks, block_of, row_of};
+use crate::rows::Rows;
 use rr_archive::Entry;
 use rr_schema::Origin;
 use std::alloc::AllocError;

@@ -1,9 +1,5 @@
 //! The rows of a block, packed.
-ghost use Rattle.std.specs.Prelude.{◌≡◌, ℕ, ◌≤◌, ◌+◌, ◌-◌, ◌++◌, ◌≤ℤ◌, pos, [], length, slice_get, vec_capacity, IfOk, IfSome, IsOk, IsTrue, OnOk, Ok};
-ghost use Rattle.std.specs.List.{find};
-ghost use Rattle.rr_text.specs.declared.limits.TheConstants.{MAX_SECOND};
-ghost use Rattle.rr_archive.specs.Row.{is_after};
-ghost use Rattle.rr_archive.specs.Stored.{PassesOver};
+ghost use Rattle.std.specs.Prelude.{◌≡◌, ℕ, pos, [], length, IfOk, IfSome, IsTrue, Ok};
 ghost use Rattle.rr_codec.specs.Reading.{packed_at};
 ghost use Rattle.std.proofs.Props.{props};
 ghost use Rattle.rr_packed.specs.PackedRows.{AreMasked, ArePackedRows, cells_of_rows, cells_packed, coded_entry, entries_at, is_on, items_packed, left_of};
@@ -12,6 +8,7 @@ use crate::block::{BLOCK_ROWS, Block};
 use crate::cells_left::CellsLeft;
 use crate::mask::next_on;
 use crate::row_number::{RowNumber, RowRange};
+use crate::rows::Rows;
 use rr_archive::Entry;
 use rr_archive::row::is_after;
 use rr_codec::encode;
@@ -57,7 +54,7 @@ fn is_in(number: RowNumber, rows: RowRange) -> bool
 }
 
 impl PackedRows {
-    ghost use Rattle.rr_packed.specs.BlockRows.{entries_in_all, items_in};
+    ghost use Rattle.rr_packed.specs.BlockRows.{items_in};
 
     /// The cells of a block, in order of their rows.
     fn cells_of(alloc: Global, block: &Block) -> Result<Vec<(i64, Entry)>, AllocError>
@@ -118,22 +115,64 @@ impl PackedRows {
         }
         Ok(block)
     }
+}
 
-    /// As `Block::rows_on`.
-    pub(crate) fn rows_on(&self, number: RowNumber) -> u32
-        ensures { PassesOver 1 (64 - number.value)
-            (λ i. items_packed self.now.bytes.items (number.value + i)) result }
-    {
+impl Rows for PackedRows {
+    ghost items = { λ p. items_packed p.bytes.items };
+
+    fn row_into(&self, number: RowNumber, row: &mut Vec<Entry>) -> Result<(), AllocError> {
+        let mut cells = self.cells();
+        while let Some(entry) = cells.next_of(number) {
+            row.push(entry)?;
+        }
+        Ok(())
+    }
+
+    fn first_after(&self, number: RowNumber, is_later: bool, origin: Origin) -> Option<Entry> {
+        let mut cells = self.cells();
+        while let Some(entry) = cells.next_of(number) {
+            if is_after(&entry, is_later, origin) {
+                return Some(entry);
+            }
+        }
+        None
+    }
+
+    fn nth(&self, number: RowNumber, i: usize) -> Option<Entry> {
+        let mut cells = self.cells();
+        let mut before = i;
+        while let Some(entry) = cells.next_of(number) {
+            if before == 0 {
+                return Some(entry);
+            }
+            before -= 1;
+        }
+        None
+    }
+
+    fn cells_into(
+        &self,
+        first: RowNumber,
+        slot: i64,
+        run: &mut Vec<(i64, Entry)>,
+    ) -> Result<(), AllocError> {
+        let mut cells = self.cells();
+        while let Some(cell) = cells.next() {
+            if cell.number.value < first.value {
+                continue;
+            }
+            let on = cell.number.value - first.value;
+            run.push((slot + i64::from(on), cell.entry))?;
+        }
+        Ok(())
+    }
+
+    fn rows_on(&self, number: RowNumber) -> u32 {
         next_on(self.mask, number)
     }
 
-    /// As `Block::entries_on`. The cost is constant for all rows, and that of reading the cells for
-    /// some of them.
-    pub(crate) fn entries_on(&self, rows: RowRange) -> usize
-        ensures { result
-            ≡ entries_in_all (λ i. items_packed self.now.bytes.items (rows.first.value + i))
-            rows.count }
-    {
+    /// The cost is constant for all rows, and that of reading the cells for some of them.
+    fn entries_on(&self, rows: RowRange) -> usize {
         let all = self.count;
         if rows.count == BLOCK_ROWS {
             return all;
@@ -146,78 +185,5 @@ impl PackedRows {
             }
         }
         count
-    }
-
-    /// Adds the entries of a row to a list.
-    pub(crate) fn row_into(&self, number: RowNumber, row: &mut Vec<Entry>) -> Result<(), AllocError>
-        ensures added { OnOk result (row.new.items
-            ≡ row.old.items ++ items_packed self.now.bytes.items number.value) }
-        ensures room { length row.old.items
-            + length (items_packed self.now.bytes.items number.value)
-            ≤ vec_capacity row.old → IsOk result }
-    {
-        let mut cells = self.cells();
-        while let Some(entry) = cells.next_of(number) {
-            row.push(entry)?;
-        }
-        Ok(())
-    }
-
-    /// The first entry of a row, if it is in a later slot than an origin's, or the first after the
-    /// origin in its own.
-    pub(crate) fn first_after(
-        &self,
-        number: RowNumber,
-        is_later: bool,
-        origin: Origin,
-    ) -> Option<Entry>
-        ensures { result ≡ find (is_after is_later origin)
-            (items_packed self.now.bytes.items number.value) }
-    {
-        let mut cells = self.cells();
-        while let Some(entry) = cells.next_of(number) {
-            if is_after(&entry, is_later, origin) {
-                return Some(entry);
-            }
-        }
-        None
-    }
-
-    /// The entry of a row by its number there, from 0.
-    pub(crate) fn nth(&self, number: RowNumber, i: usize) -> Option<Entry>
-        ensures { result ≡ slice_get (items_packed self.now.bytes.items number.value) i }
-    {
-        let mut cells = self.cells();
-        let mut before = i;
-        while let Some(entry) = cells.next_of(number) {
-            if before == 0 {
-                return Some(entry);
-            }
-            before -= 1;
-        }
-        None
-    }
-
-    /// Adds the cells of the rows from one on to a list: those of the slots from one on.
-    pub(crate) fn cells_into(
-        &self,
-        first: RowNumber,
-        slot: i64,
-        run: &mut Vec<(i64, Entry)>,
-    ) -> Result<(), AllocError>
-        requires { slot ≤ℤ pos MAX_SECOND }
-        ensures { OnOk result (run.new.items ≡ run.old.items
-            ++ cells_of_rows (λ i. items_packed self.now.bytes.items (first.value + i)) slot
-            (64 - first.value)) }
-    {
-        let mut cells = self.cells();
-        while let Some(cell) = cells.next() {
-            if cell.number.value < first.value {
-                continue;
-            }
-            let on = cell.number.value - first.value;
-            run.push((slot + i64::from(on), cell.entry))?;
-        }
-        Ok(())
     }
 }

@@ -7,6 +7,7 @@ ghost use Rattle.rr_packed.specs.Slots.{block_of};
 
 use crate::blocks::{Blocks, block_of, row_of};
 use crate::row_number::RowRange;
+use crate::rows::Rows;
 
 impl Blocks {
     /// How many slots on from one the first block begins; 0 if it began before.

@@ -7,8 +7,8 @@ use Rattle.rr_packed.specs.Sparse.{rank}
 use Rattle.rr_packed.specs.BlockRows.{items_in, entries_in_all}
 use Rattle.rr_packed.proofs.RankLemmas.{rank_few, rank_le}
 use Rattle.rr_packed.proofs.CountLemmas.{in_block, count_read, read_alone, len}
-use Rattle.rr_packed.proofs.block.Block.entries_on.Goals as goal
-use Rattle.rr_packed.proofs.block.Block.entries_on.Goals.{in-Some, in-None}
+use Rattle.rr_packed.proofs.block.lookup.BlockRows.entries_on.Goals as goal
+use Rattle.rr_packed.proofs.block.lookup.BlockRows.entries_on.Goals.{in-Some, in-None}
 
 -- there are no more lists of entries than rows
 few_lists : (b : Block) (n m : ℕ) → n + m ≤ 64

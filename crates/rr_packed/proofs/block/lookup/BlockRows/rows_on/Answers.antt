@@ -1,5 +1,5 @@
 use Rattle.std.proofs.Common.{◌+◌, arith}
-use Rattle.rr_packed.proofs.block.Block.rows_on.Goals as goal
+use Rattle.rr_packed.proofs.block.lookup.BlockRows.rows_on.Goals as goal
 
 pub returns : goal.returns
 returns c = record {

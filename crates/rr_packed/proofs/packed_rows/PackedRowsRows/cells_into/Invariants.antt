@@ -1,7 +1,7 @@
 use Rattle.std.proofs.Common.{◌≡◌, ◌++◌, length}
 use Rattle.rr_packed.specs.PackedRows.{cells_packed, left_of}
 use Rattle.rr_packed.proofs.RowMoves.{moved_to}
-use Rattle.rr_packed.proofs.packed_rows.PackedRows.cells_into.Given as goal
+use Rattle.rr_packed.proofs.packed_rows.PackedRowsRows.cells_into.Given as goal
 
 -- the cells that were added, and those that are left
 abbrev pub invariant-loop-cell : goal.invariant-loop-cell

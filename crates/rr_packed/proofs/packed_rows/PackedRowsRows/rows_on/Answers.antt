@@ -1,5 +1,5 @@
 use Rattle.std.proofs.Common.{◌+◌, arith}
-use Rattle.rr_packed.proofs.packed_rows.PackedRows.rows_on.Goals as goal
+use Rattle.rr_packed.proofs.packed_rows.PackedRowsRows.rows_on.Goals as goal
 
 pub returns : goal.returns
 returns c = record {

@@ -2,7 +2,7 @@ use Rattle.std.proofs.Common.{◌≡◌, ℕ, ◌+◌, pos, true, length, sym, a
 use Rattle.rr_packed.specs.BlockRows.{entries_in_all}
 use Rattle.rr_packed.specs.PackedRows.{cells_packed, is_on, items_packed, left_of}
 use Rattle.rr_packed.proofs.RowCounts.{count_few, count_on, count_one, count_rows, length_rows}
-use Rattle.rr_packed.proofs.packed_rows.PackedRows.entries_on.Goals as goal
+use Rattle.rr_packed.proofs.packed_rows.PackedRowsRows.entries_on.Goals as goal
 
 pub returns-then-rows-eq-BLOCK_ROWS : goal.returns-then-rows-eq-BLOCK_ROWS
 returns-then-rows-eq-BLOCK_ROWS c =

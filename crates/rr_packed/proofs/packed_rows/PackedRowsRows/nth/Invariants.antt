@@ -1,7 +1,7 @@
 use Rattle.std.proofs.Common.{◌≡◌, pos, length}
 use Rattle.std.specs.Prelude.{slice_get}
 use Rattle.rr_packed.specs.PackedRows.{entries_at, items_packed, left_of}
-use Rattle.rr_packed.proofs.packed_rows.PackedRows.nth.Given as goal
+use Rattle.rr_packed.proofs.packed_rows.PackedRowsRows.nth.Given as goal
 
 -- it is so far behind the first that is left
 abbrev pub invariant-loop-entry : goal.invariant-loop-entry

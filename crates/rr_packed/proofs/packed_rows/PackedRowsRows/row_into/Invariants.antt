@@ -1,6 +1,6 @@
 use Rattle.std.proofs.Common.{◌≡◌, ◌+◌, ◌≤◌, pos, ◌++◌, length, vec_capacity}
 use Rattle.rr_packed.specs.PackedRows.{entries_at, items_packed, left_of}
-use Rattle.rr_packed.proofs.packed_rows.PackedRows.row_into.Given as goal
+use Rattle.rr_packed.proofs.packed_rows.PackedRowsRows.row_into.Given as goal
 
 -- the entries that were added, and those that are left; there is room for these, if there was for all
 abbrev pub invariant-loop-entry : goal.invariant-loop-entry

@@ -5,7 +5,7 @@ use Rattle.rr_packed.specs.declared.packed_rows.PackedRows.{PackedRows}
 use Rattle.rr_packed.specs.BlockRows.{items_in}
 use Rattle.rr_packed.specs.Blocks.{stored_in}
 use Rattle.rr_packed.specs.PackedRows.{items_packed}
-use Rattle.rr_packed.proofs.held_block.HeldBlock.rows_on.Goals as goal
+use Rattle.rr_packed.proofs.held_block.HeldBlockRows.rows_on.Goals as goal
 
 pub returns-in-Own : goal.returns-in-Own
 returns-in-Own c = record {

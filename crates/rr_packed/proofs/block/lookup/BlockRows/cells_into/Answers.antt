@@ -4,7 +4,7 @@ use Rattle.rr_archive.specs.declared.entry.Entry.{Entry}
 use Rattle.rr_packed.specs.BlockRows.{items_in}
 use Rattle.rr_packed.specs.PackedRows.{cells_of_rows}
 use Rattle.rr_packed.proofs.RowCellLemmas.{no_rows, rows_more}
-use Rattle.rr_packed.proofs.block.Block.cells_into.Goals as goal
+use Rattle.rr_packed.proofs.block.lookup.BlockRows.cells_into.Goals as goal
 
 pub loop-i-init : goal.loop-i-init
 loop-i-init c =

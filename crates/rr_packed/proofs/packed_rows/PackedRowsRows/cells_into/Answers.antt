@@ -2,7 +2,7 @@ use Rattle.std.proofs.Common.{rules, ◌≡◌, ◌++◌, ℤ, sym, ap, ◌∙�
 use Rattle.std.proofs.lemmas.List.{append-nil}
 use Rattle.rr_packed.specs.PackedRows.{cells_packed, items_packed, left_of}
 use Rattle.rr_packed.proofs.RowMoves.{all_moved, moved_to, one_moved, slot_moved}
-use Rattle.rr_packed.proofs.packed_rows.PackedRows.cells_into.Goals as goal
+use Rattle.rr_packed.proofs.packed_rows.PackedRowsRows.cells_into.Goals as goal
 
 pub loop-cell-preserved : goal.loop-cell-preserved
 loop-cell-preserved c =

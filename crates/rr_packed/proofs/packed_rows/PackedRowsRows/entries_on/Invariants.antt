@@ -1,7 +1,7 @@
 use Rattle.std.proofs.Common.{◌≡◌, ◌+◌, length}
 use Rattle.rr_packed.specs.PackedRows.{cells_packed, left_of}
 use Rattle.rr_packed.proofs.RowCounts.{count_on}
-use Rattle.rr_packed.proofs.packed_rows.PackedRows.entries_on.Given as goal
+use Rattle.rr_packed.proofs.packed_rows.PackedRowsRows.entries_on.Given as goal
 
 -- those that were counted, and those that are left
 abbrev pub invariant-loop-cell : goal.invariant-loop-cell

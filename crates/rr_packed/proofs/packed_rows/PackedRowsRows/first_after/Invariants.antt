@@ -2,7 +2,7 @@ use Rattle.std.proofs.Common.{◌≡◌, pos, length}
 use Rattle.std.specs.List.{find}
 use Rattle.rr_archive.specs.Row.{is_after}
 use Rattle.rr_packed.specs.PackedRows.{entries_at, items_packed, left_of}
-use Rattle.rr_packed.proofs.packed_rows.PackedRows.first_after.Given as goal
+use Rattle.rr_packed.proofs.packed_rows.PackedRowsRows.first_after.Given as goal
 
 -- those before aren't after it
 abbrev pub invariant-loop-entry : goal.invariant-loop-entry

@@ -1,7 +1,7 @@
 use Rattle.std.proofs.Common.{◌≡◌, ◌+◌, ◌*◌, ◌≤◌, ◌^◌, length, take}
 use Rattle.std.specs.List.{sum_by}
 use Rattle.rr_archive.specs.Entries.{items_of}
-use Rattle.rr_packed.proofs.block.Block.entries_on.Given as goal
+use Rattle.rr_packed.proofs.block.lookup.BlockRows.entries_on.Given as goal
 
 -- those of the samples and of the lists so far; a list of entries, of 96 bytes each, fits into memory
 abbrev pub invariant-loop-entries : goal.invariant-loop-entries

@@ -1,0 +1,57 @@
+//! What the rows of a block are read by, however they are held.
+ghost use Rattle.std.specs.Prelude.{◌≡◌, ◌+◌, ◌-◌, ◌++◌, ◌≤◌, ◌≤ℤ◌, ℕ, pos, List, length, slice_get, vec_capacity, IsOk, OnOk};
+ghost use Rattle.std.specs.List.{find};
+ghost use Rattle.rr_text.specs.declared.limits.TheConstants.{MAX_SECOND};
+ghost use Rattle.rr_archive.specs.declared.entry.Entry.{Entry};
+ghost use Rattle.rr_archive.specs.Row.{is_after};
+ghost use Rattle.rr_archive.specs.Stored.{PassesOver};
+ghost use Rattle.rr_packed.specs.BlockRows.{entries_in_all};
+ghost use Rattle.rr_packed.specs.PackedRows.{cells_of_rows};
+
+use crate::row_number::{RowNumber, RowRange};
+use rr_archive::Entry;
+use rr_schema::Origin;
+use std::alloc::AllocError;
+
+/// The rows of a block, by their numbers in it from 0 to 63.
+pub(crate) trait Rows {
+    ghost items: { Self → ℕ → List Entry };
+
+    /// Adds the entries of a row to a list.
+    fn row_into(&self, number: RowNumber, row: &mut Vec<Entry>) -> Result<(), AllocError>
+        ensures added { OnOk result (row.new.items
+            ≡ row.old.items ++ items self.now number.value) }
+        ensures room { length row.old.items + length (items self.now number.value)
+            ≤ vec_capacity row.old → IsOk result };
+
+    /// The first entry of a row, if it is in a later slot than an origin's, or the first after the
+    /// origin in its own.
+    fn first_after(&self, number: RowNumber, is_later: bool, origin: Origin) -> Option<Entry>
+        ensures { result ≡ find (is_after is_later origin) (items self.now number.value) };
+
+    /// The entry of a row by its number there, from 0.
+    fn nth(&self, number: RowNumber, i: usize) -> Option<Entry>
+        ensures { result ≡ slice_get (items self.now number.value) i };
+
+    /// Adds the cells of the rows from one on to a list, those of the slots from one on.
+    fn cells_into(
+        &self,
+        first: RowNumber,
+        slot: i64,
+        run: &mut Vec<(i64, Entry)>,
+    ) -> Result<(), AllocError>
+        requires { slot ≤ℤ pos MAX_SECOND }
+        ensures { OnOk result (run.new.items ≡ run.old.items
+            ++ cells_of_rows (λ i. items self.now (first.value + i)) slot (64 - first.value)) };
+
+    /// How many numbers on from one the next is that has a row, or the block ends: those between
+    /// have no entry. The cost is constant.
+    fn rows_on(&self, number: RowNumber) -> u32
+        ensures { PassesOver 1 (64 - number.value) (λ i. items self.now (number.value + i))
+            result };
+
+    /// How many entries some rows have in all.
+    fn entries_on(&self, rows: RowRange) -> usize
+        ensures { result
+            ≡ entries_in_all (λ i. items self.now (rows.first.value + i)) rows.count };
+}
