@@ -1,4 +1,4 @@
--- What a block that an archive alone has stores: the entries of a row, by its number in it.
+-- What a block stores whose rows are held as they came: the entries of a row, by its number in it.
 use Rattle.std.specs.Prelude.{◌≡◌, ℕ, zero, suc, ◌+◌, ◌==◌, Bool, ◌&&◌, List, length, Option, Some, None, is_none, Result, IsOk, IsTrue, OnOk, if◌then◌else◌}
 use Rattle.std.specs.declared.alloc.AllocError.{AllocError}
 use Rattle.rr_archive.specs.declared.entry.Entry.{Entry}

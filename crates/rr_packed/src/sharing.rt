@@ -38,8 +38,8 @@ fn share_block(
 
 impl Blocks {
     /// Shares the older blocks as [`share_block`] does one, from the last one back to one whose
-    /// packed rows are all that is kept, or that can't be shared. So the last one alone keeps its
-    /// rows as they came beside the packed ones.
+    /// packed rows are all that is kept, or that can't be shared. Those before the last one are to
+    /// keep no rows as they came.
     pub(crate) fn share(&mut self, others: Option<&Blocks>)
         ensures { row_at self.new ≡ row_at self.old }
     {
