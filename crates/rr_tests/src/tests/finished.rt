@@ -9,7 +9,8 @@ use std::alloc::Global;
 const SLOTS: u32 = 200;
 
 /// An archive with a sample of an origin in each slot, which made its finished rows ready to be
-/// shared, and then took one of a second origin in a slot among them.
+/// shared, and then took two of a second origin in slots among them: one in a block that is packed
+/// alone, and one in the block that was finished last.
 fn filled<A: Cells>(alloc: Global) -> Option<A> {
     let (first, second) = (Origin::new(1).ok()?, Origin::new(2).ok()?);
     let mut archive = A::new(alloc, 300);
@@ -22,6 +23,8 @@ fn filled<A: Cells>(alloc: Global) -> Option<A> {
     archive.share_rows(others.first());
     let late = Contribution::first(7, 0, 70 * 60_000_000_000, -5);
     archive.join_cell(70, second, &late).ok()?;
+    let later = Contribution::first(8, 0, 150 * 60_000_000_000, -6);
+    archive.join_cell(150, second, &later).ok()?;
     Some(archive)
 }
 
@@ -92,6 +95,6 @@ fn finished_blocks_answer_as_rows_do(rt: HostRuntime) {
     assert_eq!(rt; packed, plain);
     assert_eq!(rt;
         packed.map(|found| (found.0, found.1)),
-        Some((201, Some(-5)))
+        Some((202, Some(-5)))
     );
 }
