@@ -1,0 +1,10 @@
+pub mod NumberLemmas
+pub mod RecordLemmas
+pub mod ReadingLemmas
+pub mod TextLemmas
+pub mod StepLemmas
+pub mod WritingLemmas
+pub mod KeepingLemmas
+pub mod KeyLemmas
+pub mod FieldLemmas
+pub mod HeaderLemmas

@@ -1,0 +1,12 @@
+pub mod Digest
+pub mod Text
+pub mod Cursor
+pub mod Fault
+pub mod Fields
+pub mod Reading
+pub mod Stream
+pub mod Header
+pub mod Body
+pub mod Groups
+pub mod Keeping
+pub mod Laws

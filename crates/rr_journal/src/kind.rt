@@ -1,0 +1,21 @@
+//! The kinds of records, as their bytes.
+
+/// Cells, in groups of one key and archive.
+pub(crate) const CELLS: u8 = 1;
+
+/// The origin of the samples from here on.
+pub(crate) const ORIGIN: u8 = 2;
+
+/// How far another journal was joined before.
+pub(crate) const CURSOR: u8 = 3;
+
+/// The end of a checkpoint.
+pub(crate) const END: u8 = 4;
+
+const _: () = prove!(CELLS == 1);
+
+const _: () = prove!(ORIGIN == 2);
+
+const _: () = prove!(CURSOR == 3);
+
+const _: () = prove!(END == 4);

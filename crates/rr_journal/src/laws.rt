@@ -1,0 +1,40 @@
+//! The laws of the texts of journals, with no work to do: the functions have empty bodies.
+ghost use Rattle.rr_journal.specs.Laws.{BodiesAreRead, DigestsTellHistories, HeadersAreRead, PrefixesAreRead, ReadingGoesOn, RecordsAreTheirText, SyncedIsRead, TextsGoOn};
+
+/// Bytes are read as records exactly where they are the text of these, each chained to the one
+/// before, up to where none is whole.
+pub fn records_are_their_text()
+    ensures { RecordsAreTheirText }
+{}
+
+/// Records that are appended to those that were read go on.
+pub fn records_go_on()
+    ensures read { ReadingGoesOn }
+    ensures texts { TextsGoOn }
+{}
+
+/// Of a prefix of a text, wherever it is cut, the whole records are read.
+pub fn prefixes_are_read()
+    ensures { PrefixesAreRead }
+{}
+
+/// What is synced is read, whatever a crash made of what stands behind it.
+pub fn synced_is_read()
+    ensures { SyncedIsRead }
+{}
+
+/// A header that was written is read.
+pub fn headers_are_read()
+    ensures { HeadersAreRead }
+{}
+
+/// The body of a record is read as what was written.
+pub fn bodies_are_read()
+    ensures { BodiesAreRead }
+{}
+
+/// A record that is changed, lost, repeated or exchanged shows in each digest behind it, unless two
+/// texts have one digest.
+pub fn digests_tell_histories()
+    ensures { DigestsTellHistories }
+{}

@@ -1,0 +1,62 @@
+//! A journal: records in files that are appended to, each with a digest that chains it to the one
+//! before.
+//!
+//! ```text
+//! header   "RRJN", version u8, decimals u8, length of the schema u16, schema,
+//!          id [16], offset u64, digest [8], and a digest [8] of all of this
+//! record   length of the body u32, kind u8, body, digest [8]
+//!
+//! kind 1   cells: groups of  length of the key u16, key text, archive u8, length u32, packed cells
+//! kind 2   origin: u16
+//! kind 3   cursor: id [16], offset u64, digest [8]
+//! kind 4   end of a checkpoint: how many cells it has, u64
+//! kind +128  the record is the first one after a sync
+//! ```
+//!
+//! Numbers are big-endian. A digest is the first eight bytes of a SHA-256; that of a record is of
+//! the digest of the record before it, and of its own length, kind and body. A header names its
+//! place in the journal, a [`Cursor`]: the journal's id, how many bytes of records there are before
+//! the file, and the digest of the last of them, after which the first record chains. So a record
+//! that is lost, repeated, exchanged or changed shows, also from file to file.
+//!
+//! [`encode`] makes a [`RawRecord`] of what a [`Record`] means, and [`decode`] checks one that came
+//! from anywhere. Of a file that a crash left, [`header_from`] and [`read_record`] read a header and
+//! then one record at a time, up to where none is whole, and say why ([`Stop`]): the end, a tail
+//! that a crash tore, or damage. A node writes through a [`Journal`]: what [`commit`] acknowledges
+//! is synced. [`laws`] says that what was written is read, that of a prefix the whole records are,
+//! and that what is synced is read whatever stands behind it.
+#![tactic(auto)]
+
+mod cursor;
+mod decoding;
+mod digest;
+mod encoding;
+mod fault;
+mod fields;
+mod group;
+mod grouping;
+mod header;
+mod journal;
+mod kind;
+pub mod laws;
+mod meaning;
+mod memory;
+mod raw;
+mod records;
+mod step;
+mod writing;
+
+pub use cursor::{Cursor, ID_LEN};
+pub use decoding::decode;
+pub use digest::{DIGEST_LEN, link};
+pub use encoding::encode;
+pub use fault::JournalFault;
+pub use group::Group;
+pub use header::{DECIMALS, header_bytes, header_from};
+pub use journal::{CommitFault, Journal, JournalFailed, commit, fits_between_syncs};
+pub use meaning::Record;
+pub use memory::MemoryJournal;
+pub use raw::{MAX_BODY_LEN, MAX_RECORD_LEN, RawRecord};
+pub use records::read_record;
+pub use step::{MAX_UNSYNCED, Step, Stop};
+pub use writing::write_record;

@@ -1,0 +1,18 @@
+//! What records mean.
+
+use crate::cursor::Cursor;
+use crate::group::Group;
+use rr_schema::Origin;
+
+/// What a record of a journal means.
+#[derive(Debug, Drop)]
+pub enum Record {
+    /// Cells to be joined: one group or more.
+    Cells(Vec<Group>),
+    /// The origin under which the node's samples are from here on.
+    Origin(Origin),
+    /// How far another node's journal was joined before this.
+    Cursor(Cursor),
+    /// The end of a checkpoint, and how many cells it has.
+    End(u64),
+}

@@ -1,0 +1,36 @@
+//! A record of a journal, as its kind and its bytes.
+use crate::digest::DIGEST_LEN;
+
+/// The most bytes of a record.
+pub const MAX_RECORD_LEN: usize = 1_048_576;
+
+/// How many bytes a record has before its body: its length and its kind.
+pub(crate) const HEAD_LEN: usize = 5;
+
+/// How many bytes a record has besides its body.
+pub(crate) const BESIDES_LEN: usize = 13;
+
+/// The most bytes of the body of a record.
+pub const MAX_BODY_LEN: usize = 1_048_563;
+
+/// What is added to the kind of a record that is the first one after a sync.
+pub(crate) const FIRST: u8 = 128;
+
+const _: () = prove!(MAX_RECORD_LEN == 1_048_576);
+
+const _: () = prove!(HEAD_LEN == 5);
+
+const _: () = prove!(BESIDES_LEN == HEAD_LEN + DIGEST_LEN);
+
+const _: () = prove!(MAX_BODY_LEN + BESIDES_LEN == MAX_RECORD_LEN);
+
+const _: () = prove!(FIRST == 128);
+
+/// A record without its digest.
+#[derive(Debug, Drop)]
+pub struct RawRecord {
+    /// What the body is; 128 more in the first record after a sync.
+    pub kind: u8,
+    /// The body.
+    pub body: Vec<u8>,
+}
