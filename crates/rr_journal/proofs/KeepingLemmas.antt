@@ -1,8 +1,9 @@
 -- Records that are appended to a journal.
-use Rattle.std.proofs.Common.{◌≡◌, ℕ, List, [], ◌∷◌, ◌++◌, Option, None, Some, refl, sym, ap, ◌∙◌, append_assoc, append-nil}
+use Rattle.std.proofs.Common.{◌≡◌, ℕ, List, [], ◌∷◌, ◌++◌, Option, None, Some, refl, sym, ap, ◌∙◌, append_assoc, append-nil, map, length, Result, Ok, Err, OnOk, arith}
 use Rattle.std.specs.Io.KnownBytes.{append_known}
+use Rattle.rr_journal.specs.declared.raw.RawRecord.{RawRecord}
 use Rattle.rr_journal.specs.Digest.{undigested_text, link}
-use Rattle.rr_journal.specs.Text.{Raw, after, record_text, records_text, chain}
+use Rattle.rr_journal.specs.Text.{Raw, raw_of, after, record_text, records_text, chain, as_first, batch_of}
 
 pub append_none : (k : Option (List ℕ)) → append_known k [] ≡ k
 append_none None = refl
@@ -46,3 +47,27 @@ pub none_left : (now : Option (List ℕ)) (digest : List ℕ) (text : Option (Li
     → GoesOn now digest [] text end → now ≡ text
 unfolding records_text
 none_left now digest text end g = sym (append_none now) ∙ g.text_is
+
+pub map_ok : {A E X Y : Type 0} (r : Result A E) → OnOk r X → (X → Y) → OnOk r Y
+map_ok (Ok x) h f = f h
+map_ok (Err e) h f = tt
+
+-- ---- the records between two syncs
+
+pub no_batch : (k : Option (List ℕ)) (digest : List ℕ) (rs : List RawRecord) → length rs ≡ 0
+    → k ≡ append_known k (records_text digest (batch_of (map raw_of rs)))
+unfolding records_text
+no_batch k digest [] none = sym (append_none k)
+no_batch k digest (r ∷ rs) none = absurd (omega (arith, none))
+
+module _ (k one all : Option (List ℕ)) (digest next : List ℕ) (first : RawRecord) (others rs : List RawRecord)
+    (is : rs ≡ first ∷ others) (moved : next ≡ after digest (as_first (raw_of first))) where
+  pub batch_text : one ≡ append_known k (record_text digest (as_first (raw_of first)))
+      → all ≡ append_known one (records_text next (map raw_of others))
+      → all ≡ append_known k (records_text digest (batch_of (map raw_of rs)))
+  unfolding records_text
+  batch_text p q =
+      let d = as_first (raw_of first) in
+      q ∙ (λ i. append_known (p i) (records_text (moved i) (map raw_of others)))
+      ∙ append_twice k (record_text digest d) (records_text (after digest d) (map raw_of others))
+      ∙ ap (λ (l : List RawRecord). append_known k (records_text digest (batch_of (map raw_of l)))) (sym is)
