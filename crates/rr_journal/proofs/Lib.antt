@@ -8,3 +8,4 @@ pub mod KeepingLemmas
 pub mod KeyLemmas
 pub mod FieldLemmas
 pub mod HeaderLemmas
+pub mod GroupLemmas
