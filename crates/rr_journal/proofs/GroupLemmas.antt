@@ -136,7 +136,7 @@ with_both : (a b : List PackedCells) (read : Groups) → with_groups a (with_gro
 with_both a b (Ok gs) = ap (λ (l : List PackedCells). Ok l) (sym (append_assoc a b gs))
 with_both a b (Err fault) = refl
 
-left_is : (s : Layout) (rest : List ℕ) → (length rest == 0) ≡ false → groups_left s rest ≡ groups_of s rest
+pub left_is : (s : Layout) (rest : List ℕ) → (length rest == 0) ≡ false → groups_left s rest ≡ groups_of s rest
 left_is s rest e = ap (λ (b : Bool). if b then Ok [] else groups_of s rest) e
 
 left_none : (s : Layout) (rest : List ℕ) → (length rest == 0) ≡ true → groups_left s rest ≡ Ok []

@@ -9,3 +9,5 @@ pub mod KeyLemmas
 pub mod FieldLemmas
 pub mod HeaderLemmas
 pub mod GroupLemmas
+pub mod BodyLemmas
+pub mod HistoryLemmas

@@ -1,5 +1,5 @@
 -- What records mean, and the bytes of their bodies.
-use Rattle.std.specs.Prelude.{◌≡◌, ℕ, zero, suc, ◌≤◌, ◌<◌, ◌^◌, ◌⊎◌, ◌||◌, not, ◌==◌, nat_lt, List, [], ◌∷◌, ◌++◌, length, map, Result, Ok, Err, IsOk, IsTrue, if◌then◌else◌}
+use Rattle.std.specs.Prelude.{◌≡◌, ℕ, zero, suc, ◌≤◌, ◌<◌, ◌^◌, ◌⊎◌, ◌||◌, not, ◌==◌, nat_lt, List, [], ◌∷◌, ◌++◌, length, map, Result, Ok, Err, IsOk, if◌then◌else◌}
 use Rattle.std.specs.Int.{w8, w16, w32, w64, to_be_bytes}
 use Rattle.std.specs.List.{flat_map, AllByRecursion}
 use Rattle.rr_text.specs.declared.limits.TheConstants.{MAX_KEY_TEXT}
@@ -7,6 +7,7 @@ use Rattle.rr_text.specs.Results.{◌>>=◌, unless}
 use Rattle.rr_schema.specs.Origin.{IsOrigin}
 use Rattle.rr_schema.specs.Schema.{Layout}
 use Rattle.rr_key.specs.Reading.{is_key_text}
+use Rattle.rr_key.specs.Series.{IsKeyText}
 use Rattle.rr_codec.specs.declared.fault.CodecFault.{CodecFault}
 use Rattle.rr_codec.specs.Reading.{checked_count}
 use Rattle.rr_journal.specs.declared.fault.JournalFault.{JournalFault}
@@ -147,7 +148,7 @@ meaning_at s kind body =
 
 -- a key text, an archive of the schema, and packed cells that it may have
 pub record IsGroup (s : Layout) (g : PackedCells) : Type 0 where
-  pub key : IsTrue (is_key_text g.key)
+  pub key : IsKeyText g.key
   pub archive : g.archive < length s.archives
   pub byte_archive : g.archive < 2 ^ 8
   pub fits : length g.bytes < 2 ^ 32
