@@ -1,5 +1,5 @@
 -- The body of a record is read as what was written.
-use Rattle.std.proofs.Common.{◌≡◌, ℕ, ◌+◌, ◌^◌, ◌<◌, ◌≤◌, Bool, true, false, ◌||◌, not, List, [], ◌∷◌, ◌++◌, length, Result, Ok, Err, refl, sym, ap, ◌∙◌, append_assoc, append-nil, arith}
+use Rattle.std.proofs.Common.{◌≡◌, ℕ, ◌+◌, ◌%◌, ◌^◌, ◌<◌, ◌≤◌, Bool, true, false, ◌||◌, not, List, [], ◌∷◌, ◌++◌, length, Result, Ok, Err, refl, sym, ap, ◌∙◌, append_assoc, append-nil, arith}
 use Rattle.std.specs.Prelude.{nat_lt, ◌==◌, IsOk, if◌then◌else◌}
 use Rattle.std.specs.FinMap.{entries}
 use Rattle.std.specs.Int.{w8, w16, w32, w64, to_be_bytes}
@@ -19,7 +19,8 @@ use Rattle.rr_codec.specs.Reading.{checked_count}
 use Rattle.rr_journal.specs.declared.cursor.Cursor.{Cursor}
 use Rattle.rr_journal.specs.declared.fault.JournalFault.{JournalFault}
 use Rattle.rr_journal.specs.declared.fault.JournalFault.TheVariants.{BadKey, BadArchive, BadOrigin}
-use Rattle.rr_journal.specs.Body.{PackedCells, Meaning, HasCells, HasOrigin, HasJoined, HasEnded, IsGroup, group_text, body_text, kind_of, as_packed, alone, key_at, archive_at, packed_at, group_at, groups_of, origin_of, cursor_of, count_of, meaning_at}
+use Rattle.rr_journal.specs.declared.raw.TheConstants.{FIRST}
+use Rattle.rr_journal.specs.Body.{PackedCells, Meaning, HasCells, HasOrigin, HasJoined, HasEnded, IsGroup, IsMeaning, group_text, body_text, kind_of, as_packed, alone, key_at, archive_at, packed_at, group_at, groups_of, origin_of, cursor_of, count_of, meaning_at}
 use Rattle.rr_journal.specs.Cursor.{IsCursor, cursor_text}
 use Rattle.rr_journal.specs.Fields.{prefix_at, number_at, cursor_at}
 use Rattle.rr_journal.specs.Laws.{BodiesAreRead}
@@ -133,11 +134,24 @@ count_again : (count : ℕ) → count < 2 ^ 64 → count_of (to_be_bytes w64 cou
 count_again count fits =
     ap count_of (sym (append-nil (to_be_bytes w64 count))) ∙ step alone (number64_again count [] fits)
 
-pub bodies_are_read : BodiesAreRead
+meaning_again : (s : Layout) (m : Meaning) → IsMeaning s m → meaning_at s (kind_of m) (body_text m) ≡ Ok m
 unfolding meaning_at body_text
-bodies_are_read s (HasCells groups) is =
+meaning_again s (HasCells groups) is =
     step (λ (x : List PackedCells). Ok (HasCells x)) (cells_again s groups is.0 is.1)
-bodies_are_read s (HasOrigin origin) is =
+meaning_again s (HasOrigin origin) is =
     step (λ (x : ℕ). Ok (HasOrigin x)) (origin_again origin is.at_least (omega (arith, is.at_most)))
-bodies_are_read s (HasJoined cursor) is = step (λ (x : Cursor). Ok (HasJoined x)) (cursor_alone cursor is)
-bodies_are_read s (HasEnded count) is = step (λ (x : ℕ). Ok (HasEnded x)) (count_again count is)
+meaning_again s (HasJoined cursor) is = step (λ (x : Cursor). Ok (HasJoined x)) (cursor_alone cursor is)
+meaning_again s (HasEnded count) is = step (λ (x : ℕ). Ok (HasEnded x)) (count_again count is)
+
+-- the highest bit of a kind is no part of it
+kind_again : (m : Meaning) → (kind_of m % FIRST ≡ kind_of m) × ((kind_of m % FIRST + FIRST) % FIRST ≡ kind_of m)
+kind_again (HasCells groups) = (refl, refl)
+kind_again (HasOrigin origin) = (refl, refl)
+kind_again (HasJoined cursor) = (refl, refl)
+kind_again (HasEnded count) = (refl, refl)
+
+pub bodies_are_read : BodiesAreRead
+bodies_are_read s m is = (
+  ap (λ (k : ℕ). meaning_at s k (body_text m)) (kind_again m).0 ∙ meaning_again s m is,
+  ap (λ (k : ℕ). meaning_at s k (body_text m)) (kind_again m).1 ∙ meaning_again s m is,
+)

@@ -128,10 +128,6 @@ no_group s bytes fault e = within_is (length bytes) s bytes ∙ ap (with_first (
 
 -- ---- for the loops
 
-pub with_none : (read : Groups) → with_groups [] read ≡ read
-with_none (Ok gs) = refl
-with_none (Err fault) = refl
-
 with_both : (a b : List PackedCells) (read : Groups) → with_groups a (with_groups b read) ≡ with_groups (a ++ b) read
 with_both a b (Ok gs) = ap (λ (l : List PackedCells). Ok l) (sym (append_assoc a b gs))
 with_both a b (Err fault) = refl

@@ -7,14 +7,8 @@ use Rattle.std.proofs.lemmas.List.Elements.{All-drop, All-take, All-get_or}
 use Rattle.std.proofs.lemmas.Nat.{from_be_bytes-to_be_bytes_2, from_be_bytes-to_be_bytes_4, from_be_bytes-to_be_bytes_8, be_bytes_4}
 use Rattle.rr_journal.specs.Laws.{AreBytes}
 
-pub len16 : (n : ℕ) → length (to_be_bytes w16 n) ≡ 2
-len16 n = refl
-
 pub len32 : (n : ℕ) → length (to_be_bytes w32 n) ≡ 4
 len32 n = refl
-
-pub len64 : (n : ℕ) → length (to_be_bytes w64 n) ≡ 8
-len64 n = refl
 
 pub again16 : (n : ℕ) → n < 2 ^ 16 → from_be_bytes w16 (to_be_bytes w16 n) ≡ n
 again16 n lt = from_be_bytes-to_be_bytes_2 n lt

@@ -1,6 +1,6 @@
 -- All records that bytes begin with.
 use Rattle.std.proofs.Common.{◌≡◌, ℕ, zero, suc, ◌+◌, ◌-◌, ◌≤◌, Bool, true, false, leb, List, [], ◌∷◌, ◌++◌, length, take, drop, Option, None, Some, refl, sym, ap, subst, ◌∙◌, append_assoc, append-nil, arith}
-use Rattle.std.specs.Prelude.{◌≢◌, ◌==◌, nat_le, if◌then◌else◌}
+use Rattle.std.specs.Prelude.{◌==◌, MatchOption, nat_le, if◌then◌else◌}
 use Rattle.std.proofs.lemmas.Bool.{leb-true, leb-false, le-leb}
 use Rattle.std.proofs.lemmas.List.{length-append, length-take, nil_from_length}
 use Rattle.rr_journal.specs.Laws.{AreBytes}
@@ -9,8 +9,8 @@ use Rattle.rr_journal.specs.declared.fault.JournalFault.{JournalFault}
 use Rattle.rr_journal.specs.declared.step.Stop.{Stop}
 use Rattle.rr_journal.specs.declared.step.Stop.TheVariants.{End, Torn, Damaged}
 use Rattle.rr_journal.specs.Text.{Raw, AllFit, after, record_text, records_text, chain}
-use Rattle.rr_journal.specs.Reading.{is_whole, record_at, with_first, first_records, records_of, followed_by, IsDamage, stop_at}
-use Rattle.rr_journal.specs.Laws.{RecordsAreTheirText, ReadingGoesOn}
+use Rattle.rr_journal.specs.Reading.{is_whole, record_at, with_first, first_records, records_of, followed_by, IsDamage, stop_at, stop_before, stop_of}
+use Rattle.rr_journal.specs.Laws.{RecordsAreReadInTurn, RecordsAreTheirText, RecordsGoOn}
 use Rattle.rr_journal.proofs.RecordLemmas.{Taken, record_again, record_taken, found_len, no_head}
 
 abbrev Records : Type 0
@@ -65,7 +65,18 @@ one_first before bytes x e =
 
 -- ---- laws
 
-pub reading_goes_on : ReadingGoesOn
+pub records_are_read_in_turn : RecordsAreReadInTurn
+records_are_read_in_turn before bytes = by_found (record_at before bytes) refl
+  where
+    by_found : (o : Option (Raw × List ℕ)) → record_at before bytes ≡ o
+        → MatchOption o ((records_of before bytes ≡ ([], bytes)) × (stop_of before bytes ≡ stop_before bytes))
+        (λ x. records_of before bytes ≡ followed_by (x.0 ∷ []) (records_of (after before x.0) x.1))
+    by_found None e =
+        let is = none_first before bytes e in
+        (is, ap (λ (y : Records). stop_before y.1) is)
+    by_found (Some x) e = one_first before bytes x e
+
+pub reading_goes_on : RecordsGoOn
 unfolding records_text
 reading_goes_on before [] more fits = refl
 reading_goes_on before (r ∷ rs) more fits =

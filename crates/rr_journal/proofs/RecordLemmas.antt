@@ -201,27 +201,6 @@ found_len before bytes x e =
       length-drop k behind,
     )
 
-pub found_exactly : (before bytes : List ℕ) (x : Raw × List ℕ) → record_at before bytes ≡ Some x
-    → length x.1 + record_len x.0 ≡ length bytes
-found_exactly before bytes x e =
-    let f = found before bytes x e in
-    let behind = drop 5 bytes in
-    let k = tail_len (take 5 bytes) in
-    let n = stated_len (take 5 bytes) in
-    let body : take n (take k behind) ≡ x.0.body = ap (λ (r : Raw). r.body) f.entry in
-    omega (
-      arith,
-      f.whole.head_len,
-      f.whole.tail_len,
-      ap length f.rest,
-      ap length body,
-      length-take n (take k behind),
-      length-take 5 bytes,
-      length-drop 5 bytes,
-      length-take k behind,
-      length-drop k behind,
-    )
-
 five_of : (h : List ℕ) → length h ≡ 5 → h ≡ take 4 h ++ (get_or h 4 0 ∷ [])
 five_of [] l = absurd (omega arith)
 five_of (a ∷ []) l = absurd (omega arith)

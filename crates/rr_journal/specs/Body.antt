@@ -1,5 +1,5 @@
 -- What records mean, and the bytes of their bodies.
-use Rattle.std.specs.Prelude.{◌≡◌, ℕ, zero, suc, ◌≤◌, ◌<◌, ◌^◌, ◌⊎◌, ◌||◌, not, ◌==◌, nat_lt, List, [], ◌∷◌, ◌++◌, length, map, Result, Ok, Err, IsOk, if◌then◌else◌}
+use Rattle.std.specs.Prelude.{◌≡◌, ℕ, zero, suc, ◌≤◌, ◌<◌, ◌%◌, ◌^◌, ◌⊎◌, ◌||◌, not, ◌==◌, nat_lt, List, [], ◌∷◌, ◌++◌, length, map, Result, Ok, Err, IsOk, if◌then◌else◌}
 use Rattle.std.specs.Int.{w8, w16, w32, w64, to_be_bytes}
 use Rattle.std.specs.List.{flat_map, AllByRecursion}
 use Rattle.rr_text.specs.declared.limits.TheConstants.{MAX_KEY_TEXT}
@@ -17,7 +17,7 @@ use Rattle.rr_journal.specs.declared.group.Group.{Group}
 use Rattle.rr_journal.specs.declared.meaning.Record.{Record}
 use Rattle.rr_journal.specs.declared.meaning.Record.TheVariants as code
 use Rattle.rr_journal.specs.declared.kind.TheConstants.{CELLS, ORIGIN, CURSOR, END}
-use Rattle.rr_journal.specs.declared.raw.TheConstants.{MAX_BODY_LEN}
+use Rattle.rr_journal.specs.declared.raw.TheConstants.{MAX_BODY_LEN, FIRST}
 use Rattle.rr_journal.specs.Cursor.{IsCursor, cursor_text}
 use Rattle.rr_journal.specs.Fields.{prefix_at, number_at, cursor_at}
 use Rattle.rr_journal.specs.Text.{Raw}
@@ -143,6 +143,10 @@ meaning_at s kind body =
     else (if kind == CURSOR then (cursor_of body >>= λ cursor. Ok (HasJoined cursor))
     else (if kind == END then (count_of body >>= λ count. Ok (HasEnded count))
     else Err BadKind)))
+
+-- what a record means; whether it is the first one after a sync is no part of that
+abbrev pub record_meaning : Layout → Raw → Result Meaning JournalFault
+record_meaning s r = meaning_at s (r.kind % FIRST) r.body
 
 -- ---- which have a text that is read again
 

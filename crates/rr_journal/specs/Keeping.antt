@@ -1,8 +1,8 @@
 -- What a journal keeps.
 use Rattle.std.specs.Prelude.{◌≡◌, ℕ, ◌≤◌, List, ◌++◌, length, map, Option, None, Some, Result, Ok, Err, take}
 use Rattle.std.specs.Io.KnownBytes.{append_known}
-use Rattle.rr_journal.specs.declared.journal.CommitFault.{CommitFault}
-use Rattle.rr_journal.specs.declared.journal.CommitFault.TheVariants.{NotWritten, NotSynced}
+use Rattle.rr_journal.specs.declared.committing.CommitFault.{CommitFault}
+use Rattle.rr_journal.specs.declared.committing.CommitFault.TheVariants.{NotWritten, NotSynced}
 use Rattle.rr_journal.specs.declared.cursor.Cursor.{Cursor}
 use Rattle.rr_journal.specs.Cursor.{behind_all}
 use Rattle.rr_journal.specs.Text.{Raw, records_text}

@@ -1,15 +1,15 @@
 -- The laws of the texts of journals.
-use Rattle.std.specs.Prelude.{◌≡◌, ◌≢◌, ◌↔◌, ◌⊎◌, ℕ, ◌<◌, ◌^◌, ◌≤◌, List, ◌++◌, length, take, None, Ok, All}
+use Rattle.std.specs.Prelude.{◌≡◌, ◌≢◌, ◌↔◌, ◌⊎◌, ℕ, ◌<◌, ◌^◌, ◌≤◌, List, [], ◌∷◌, ◌++◌, length, take, None, MatchOption, Ok, All}
 use Rattle.rr_schema.specs.Schema.{Layout, IsLayout}
 use Rattle.rr_journal.specs.declared.cursor.Cursor.{Cursor}
 use Rattle.rr_journal.specs.declared.digest.TheConstants.{DIGEST_LEN}
 use Rattle.rr_journal.specs.declared.step.TheConstants.{MAX_UNSYNCED}
-use Rattle.rr_journal.specs.Body.{Meaning, IsMeaning, body_text, kind_of, meaning_at}
+use Rattle.rr_journal.specs.Body.{Meaning, IsMeaning, raw_text, record_meaning}
 use Rattle.rr_journal.specs.Cursor.{IsCursor}
 use Rattle.rr_journal.specs.Digest.{cut_digest}
 use Rattle.rr_journal.specs.Header.{header_at, header_text}
-use Rattle.rr_journal.specs.Reading.{IsDamage, followed_by, record_at, records_of, stop_of}
-use Rattle.rr_journal.specs.Text.{Raw, AllFit, chain, records_text, whole_within}
+use Rattle.rr_journal.specs.Reading.{IsDamage, followed_by, record_at, records_of, stop_before, stop_of}
+use Rattle.rr_journal.specs.Text.{Raw, AllFit, after, as_first, chain, records_text, whole_within}
 
 -- each of these numbers is a byte
 abbrev pub AreBytes : List ℕ → Type 0
@@ -23,9 +23,17 @@ RecordsAreTheirText =
     → (records_of before bytes ≡ (rs, rest)) ↔ (AllFit rs × (bytes ≡ records_text before rs ++ rest)
     × (record_at (chain before rs) rest ≡ None))
 
+-- records are read one by one: the first of them, and then the others after its digest; where none is whole, all bytes
+-- are left
+abbrev pub RecordsAreReadInTurn : Type 0
+RecordsAreReadInTurn =
+    (before bytes : List ℕ) → MatchOption (record_at before bytes)
+    ((records_of before bytes ≡ ([], bytes)) × (stop_of before bytes ≡ stop_before bytes))
+    (λ x. records_of before bytes ≡ followed_by (x.0 ∷ []) (records_of (after before x.0) x.1))
+
 -- what follows a text is read after its records: so records that are appended to what was read go on
-abbrev pub ReadingGoesOn : Type 0
-ReadingGoesOn =
+abbrev pub RecordsGoOn : Type 0
+RecordsGoOn =
     (before : List ℕ) (rs : List Raw) (more : List ℕ) → AllFit rs
     → records_of before (records_text before rs ++ more) ≡ followed_by rs (records_of (chain before rs) more)
 
@@ -69,6 +77,7 @@ abbrev pub HeadersAreRead : Type 0
 HeadersAreRead = (s : Layout) (c : Cursor) (more : List ℕ) → IsLayout s → IsCursor c
     → header_at s (header_text s c ++ more) ≡ Ok (c, more)
 
--- the body of a record is read as what was written
+-- a record means what was written, also as the first one after a sync
 abbrev pub BodiesAreRead : Type 0
-BodiesAreRead = (s : Layout) (m : Meaning) → IsMeaning s m → meaning_at s (kind_of m) (body_text m) ≡ Ok m
+BodiesAreRead = (s : Layout) (m : Meaning) → IsMeaning s m
+    → (record_meaning s (raw_text m) ≡ Ok m) × (record_meaning s (as_first (raw_text m)) ≡ Ok m)

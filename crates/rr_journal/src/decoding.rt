@@ -1,8 +1,8 @@
 //! What records mean, from their bytes.
-ghost use Rattle.std.specs.Prelude.{◌%◌};
 ghost use Rattle.rr_text.specs.Results.{GivesUnless, NeedsMemoryAfter};
-ghost use Rattle.rr_journal.specs.Body.{alone, count_of, cursor_of, meaning_at, meaning_of, origin_of};
+ghost use Rattle.rr_journal.specs.Body.{alone, count_of, cursor_of, meaning_of, origin_of, record_meaning};
 ghost use Rattle.rr_journal.specs.Fault.{Finds};
+ghost use Rattle.rr_journal.specs.Text.{raw_of};
 
 use crate::cursor::Cursor;
 use crate::fault::JournalFault;
@@ -65,9 +65,9 @@ fn count_of(body: &[u8]) -> Result<u64, JournalFault>
 #[tactic(auto, unfolding(crate::specs::Body::meaning_at))]
 pub fn decode(alloc: Global, raw: &RawRecord, schema: &Schema) -> Result<Record, JournalFault>
     ensures read { GivesUnless JournalFault.Memory meaning_of result
-        (meaning_at schema.now (raw.now.kind % FIRST) raw.now.body.items) }
+        (record_meaning schema.now (raw_of raw.now)) }
     ensures memory { NeedsMemoryAfter JournalFault.Memory
-        (meaning_at schema.now (raw.now.kind % FIRST) raw.now.body.items) result }
+        (record_meaning schema.now (raw_of raw.now)) result }
 {
     match raw.kind % FIRST {
         CELLS => {

@@ -138,11 +138,7 @@ fn take_group<'a>(
 }
 
 /// The groups that the bytes are, each copied as it is read.
-fn copied_groups(
-    alloc: Global,
-    bytes: &[u8],
-    schema: &Schema,
-) -> Result<Vec<Group>, JournalFault>
+fn copied_groups(alloc: Global, bytes: &[u8], schema: &Schema) -> Result<Vec<Group>, JournalFault>
     ensures { GivesUnless JournalFault.Memory (λ groups. map packed_cells groups.items) result
         (groups_of schema.now bytes.now) }
 {

@@ -1,5 +1,5 @@
 //! The laws of the texts of journals, with no work to do: the functions have empty bodies.
-ghost use Rattle.rr_journal.specs.Laws.{BodiesAreRead, DigestsTellHistories, HeadersAreRead, PrefixesAreRead, ReadingGoesOn, RecordsAreTheirText, SyncedIsRead, TextsGoOn};
+ghost use Rattle.rr_journal.specs.Laws.{BodiesAreRead, DigestsTellHistories, HeadersAreRead, PrefixesAreRead, RecordsAreReadInTurn, RecordsAreTheirText, RecordsGoOn, SyncedIsRead, TextsGoOn};
 
 /// Bytes are read as records exactly where they are the text of these, each chained to the one
 /// before, up to where none is whole.
@@ -7,9 +7,15 @@ pub fn records_are_their_text()
     ensures { RecordsAreTheirText }
 {}
 
+/// Records are read one by one, as [`read_record`](crate::read_record) reads them, up to where none
+/// is whole, and why is told there.
+pub fn records_are_read_in_turn()
+    ensures { RecordsAreReadInTurn }
+{}
+
 /// Records that are appended to those that were read go on.
 pub fn records_go_on()
-    ensures read { ReadingGoesOn }
+    ensures read { RecordsGoOn }
     ensures texts { TextsGoOn }
 {}
 
@@ -28,7 +34,7 @@ pub fn headers_are_read()
     ensures { HeadersAreRead }
 {}
 
-/// The body of a record is read as what was written.
+/// A record means what was written.
 pub fn bodies_are_read()
     ensures { BodiesAreRead }
 {}

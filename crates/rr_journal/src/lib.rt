@@ -27,6 +27,7 @@
 //! and that what is synced is read whatever stands behind it.
 #![tactic(auto)]
 
+mod committing;
 mod cursor;
 mod decoding;
 mod digest;
@@ -46,6 +47,7 @@ mod records;
 mod step;
 mod writing;
 
+pub use committing::{CommitFault, commit, fits_between_syncs};
 pub use cursor::{Cursor, ID_LEN};
 pub use decoding::decode;
 pub use digest::{DIGEST_LEN, link};
@@ -53,7 +55,7 @@ pub use encoding::encode;
 pub use fault::JournalFault;
 pub use group::Group;
 pub use header::{DECIMALS, header_bytes, header_from};
-pub use journal::{CommitFault, Journal, JournalFailed, commit, fits_between_syncs};
+pub use journal::{Journal, JournalFailed};
 pub use meaning::Record;
 pub use memory::MemoryJournal;
 pub use raw::{MAX_BODY_LEN, MAX_RECORD_LEN, RawRecord};

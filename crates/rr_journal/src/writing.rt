@@ -58,6 +58,8 @@ pub fn write_record<W: Write>(
     ensures stays { OnErr result (cursor.new ≡ cursor.old) }
 {
     write_after(output, &mut cursor.digest, raw.kind, raw.body.as_slice())?;
-    cursor.offset = cursor.offset.saturating_add((BESIDES_LEN + raw.body.len()) as u64);
+    cursor.offset = cursor
+        .offset
+        .saturating_add((BESIDES_LEN + raw.body.len()) as u64);
     Ok(())
 }

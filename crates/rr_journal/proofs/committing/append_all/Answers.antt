@@ -5,7 +5,7 @@ use Rattle.rr_journal.specs.declared.raw.RawRecord.{RawRecord}
 use Rattle.rr_journal.specs.Digest.{link}
 use Rattle.rr_journal.specs.Text.{Raw, raw_of, record_text, records_text, chain}
 use Rattle.rr_journal.proofs.KeepingLemmas.{GoesOn, one_more, none_left}
-use Rattle.rr_journal.proofs.journal.append_all.Goals as goal
+use Rattle.rr_journal.proofs.committing.append_all.Goals as goal
 
 -- the record in turn is the first of those that are left
 in_turn : (rs : List RawRecord) (i : ℕ) (r : RawRecord) → i < length rs → get_or rs i r ≡ r

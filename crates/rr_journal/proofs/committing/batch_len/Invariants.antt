@@ -1,7 +1,7 @@
 use Rattle.std.proofs.Common.{◌≡◌, ◌+◌, ◌≤◌, map, drop}
 use Rattle.rr_journal.specs.declared.step.TheConstants.{MAX_UNSYNCED}
 use Rattle.rr_journal.specs.Text.{raw_of, records_len}
-use Rattle.rr_journal.proofs.journal.batch_len.Given as goal
+use Rattle.rr_journal.proofs.committing.batch_len.Given as goal
 
 -- so many bytes have those before, and those that are left have the others
 abbrev pub invariant-loop-raw : goal.invariant-loop-raw

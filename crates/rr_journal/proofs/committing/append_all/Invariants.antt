@@ -2,7 +2,7 @@ use Rattle.std.proofs.Common.{◌≡◌, map, drop}
 use Rattle.std.specs.Io.KnownBytes.{append_known}
 use Rattle.rr_journal.specs.Text.{raw_of, records_text, chain}
 use Rattle.rr_journal.proofs.KeepingLemmas.{GoesOn}
-use Rattle.rr_journal.proofs.journal.append_all.Given as goal
+use Rattle.rr_journal.proofs.committing.append_all.Given as goal
 
 -- the records that are left go on
 abbrev pub invariant-loop-raw : goal.invariant-loop-raw

@@ -6,7 +6,7 @@ use Rattle.rr_journal.specs.declared.raw.TheConstants.{MAX_BODY_LEN}
 use Rattle.rr_journal.specs.Digest.{link}
 use Rattle.rr_journal.specs.Text.{record_text}
 use Rattle.rr_journal.proofs.KeepingLemmas.{no_batch, map_ok, batch_text}
-use Rattle.rr_journal.proofs.journal.append_batch.Goals as goal
+use Rattle.rr_journal.proofs.committing.append_batch.Goals as goal
 
 pub returns-in_default-clause-text : goal.returns-in_default-clause-text
 returns-in_default-clause-text g c =

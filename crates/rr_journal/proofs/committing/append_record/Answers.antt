@@ -1,5 +1,5 @@
 use Rattle.rr_journal.proofs.KeepingLemmas.{three}
-use Rattle.rr_journal.proofs.journal.append_record.Goals as goal
+use Rattle.rr_journal.proofs.committing.append_record.Goals as goal
 
 pub returns-clause-text : goal.returns-clause-text
 returns-clause-text g c =

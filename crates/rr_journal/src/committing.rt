@@ -1,0 +1,149 @@
+//! Records, committed: written to a journal and synced.
+ghost use Rattle.std.specs.Prelude.{◌≡◌, ◌≤◌, ◌↔◌, length, map, All, IsTrue, OnOk};
+ghost use Rattle.std.specs.Io.KnownBytes.{append_known};
+ghost use Rattle.std.specs.Option.{SomeIff};
+ghost use Rattle.rr_journal.specs.Cursor.{behind_all};
+ghost use Rattle.rr_journal.specs.Digest.{link};
+ghost use Rattle.rr_journal.specs.Keeping.{Commits};
+ghost use Rattle.rr_journal.specs.Text.{batch_of, chain, raw_of, record_text, records_len, records_text};
+
+use crate::cursor::Cursor;
+use crate::digest::{DIGEST_LEN, link};
+use crate::journal::{Journal, JournalFailed};
+use crate::raw::{BESIDES_LEN, FIRST, MAX_BODY_LEN, RawRecord};
+use crate::step::MAX_UNSYNCED;
+use crate::writing::head;
+use thiserror::Error;
+
+/// Why records are not committed.
+#[derive(Clone, Copy, Debug, PartialEq, Eq, Error)]
+pub enum CommitFault {
+    /// They could not be written, and what was written of them is taken back. It may be tried
+    /// again.
+    #[error("the journal could not be written")]
+    NotWritten,
+    /// A sync failed, or what was written could not be taken back. What a crash leaves is known
+    /// only up to the last sync: the journal is to be opened and read again.
+    #[error("the journal could not be synced")]
+    NotSynced,
+}
+
+/// Writes a record after the one with this digest, which then is that of the record.
+fn append_record<J: Journal>(
+    journal: &mut J,
+    digest: &mut [u8; DIGEST_LEN],
+    kind: u8,
+    body: &[u8],
+) -> Result<(), JournalFailed>
+    requires { length body.now ≤ MAX_BODY_LEN }
+    ensures text { OnOk result (J.text journal.new ≡ append_known (J.text journal.old)
+        (record_text digest.old (record { kind = kind; body = body.now }))) }
+    ensures digest { OnOk result (digest.new ≡ link digest.old kind body.now) }
+    ensures synced { J.synced journal.new ≡ J.synced journal.old }
+{
+    let own = link(digest, kind, body);
+    journal.append(&head(kind, body))?;
+    journal.append(body)?;
+    journal.append(&own)?;
+    *digest = own;
+    Ok(())
+}
+
+/// Writes records, each after the one before it, the first after the one with this digest.
+fn append_all<J: Journal>(
+    journal: &mut J,
+    digest: &mut [u8; DIGEST_LEN],
+    records: &[RawRecord],
+) -> Result<(), JournalFailed>
+    requires { All (λ r. length r.body.items ≤ MAX_BODY_LEN) records.now }
+    ensures text { OnOk result (J.text journal.new ≡ append_known (J.text journal.old)
+        (records_text digest.old (map raw_of records.now))) }
+    ensures digest { OnOk result (digest.new ≡ chain digest.old (map raw_of records.now)) }
+    ensures synced { J.synced journal.new ≡ J.synced journal.old }
+{
+    for raw in records {
+        append_record(journal, digest, raw.kind, raw.body.as_slice())?;
+    }
+    Ok(())
+}
+
+/// Writes the records between two syncs, the first of them as the first one after a sync.
+fn append_batch<J: Journal>(
+    journal: &mut J,
+    digest: &mut [u8; DIGEST_LEN],
+    records: &[RawRecord],
+) -> Result<(), JournalFailed>
+    requires { All (λ r. length r.body.items ≤ MAX_BODY_LEN) records.now }
+    ensures text { OnOk result (J.text journal.new ≡ append_known (J.text journal.old)
+        (records_text digest.old (batch_of (map raw_of records.now)))) }
+    ensures digest { OnOk result (digest.new
+        ≡ chain digest.old (batch_of (map raw_of records.now))) }
+    ensures synced { J.synced journal.new ≡ J.synced journal.old }
+{
+    let Some((first, others)) = records.split_first() else {
+        return Ok(());
+    };
+    append_record(
+        journal,
+        digest,
+        first.kind % FIRST + FIRST,
+        first.body.as_slice(),
+    )?;
+    append_all(journal, digest, others)
+}
+
+/// How many bytes records have, if they are no more than may be written between two syncs.
+fn batch_len(records: &[RawRecord]) -> Option<usize>
+    ensures { SomeIff result (records_len (map raw_of records.now) ≤ MAX_UNSYNCED)
+        (records_len (map raw_of records.now)) }
+{
+    let mut len = 0;
+    for raw in records {
+        let left = MAX_UNSYNCED - len;
+        if raw.body.len() > left || BESIDES_LEN + raw.body.len() > left {
+            return None;
+        }
+        len += BESIDES_LEN + raw.body.len();
+    }
+    Some(len)
+}
+
+/// Whether records are no more than may be written between two syncs.
+pub fn fits_between_syncs(records: &[RawRecord]) -> bool
+    ensures { IsTrue result ↔ (records_len (map raw_of records.now) ≤ MAX_UNSYNCED) }
+{
+    batch_len(records).is_some()
+}
+
+/// Writes records at the end of a journal, a place that is then the one behind them, and syncs
+/// them, so that what they mean may be acknowledged: a crash leaves them, and all before them.
+///
+/// They have at most [`MAX_UNSYNCED`](crate::MAX_UNSYNCED) bytes, and all that was written before
+/// is synced. `NotWritten` leaves all as it was; after `NotSynced` what was synced before still is,
+/// and the journal is to be opened and read again. In neither case may they be acknowledged.
+pub fn commit<J: Journal>(
+    journal: &mut J,
+    cursor: &mut Cursor,
+    records: &[RawRecord],
+) -> Result<(), CommitFault>
+    requires fits { All (λ r. length r.body.items ≤ MAX_BODY_LEN) records.now }
+    requires few { records_len (map raw_of records.now) ≤ MAX_UNSYNCED }
+    requires synced { J.text journal.old ≡ J.synced journal.old }
+    ensures { Commits (J.synced journal.old) (J.synced journal.new) (J.text journal.new)
+        cursor.old cursor.new (batch_of (map raw_of records.now)) result }
+{
+    let mut digest = cursor.digest;
+    if append_batch(journal, &mut digest, records).is_err() {
+        return match journal.cut_back() {
+            Ok(()) => Err(CommitFault::NotWritten),
+            Err(_) => Err(CommitFault::NotSynced),
+        };
+    }
+    if journal.sync().is_err() {
+        return Err(CommitFault::NotSynced);
+    }
+    let len = batch_len(records).unwrap_or(MAX_UNSYNCED);
+    cursor.digest = digest;
+    cursor.offset = cursor.offset.saturating_add(len as u64);
+    Ok(())
+}
