@@ -1,8 +1,8 @@
 -- The body of a record is read as what was written.
-use Rattle.std.proofs.Common.{◌≡◌, ℕ, ◌+◌, ◌%◌, ◌^◌, ◌<◌, ◌≤◌, Bool, true, false, ◌||◌, not, List, [], ◌∷◌, ◌++◌, length, Result, Ok, Err, refl, sym, ap, ◌∙◌, append_assoc, append-nil, arith}
-use Rattle.std.specs.Prelude.{nat_lt, ◌==◌, IsOk, if◌then◌else◌}
+use Rattle.std.proofs.Common.{◌≡◌, ℕ, ◌+◌, ◌%◌, ◌^◌, ◌<◌, ◌≤◌, Bool, false, ◌||◌, not, List, [], ◌∷◌, ◌++◌, length, Result, Ok, Err, refl, sym, ap, ◌∙◌, append_assoc, append-nil, arith}
+use Rattle.std.specs.Prelude.{nat_lt, ◌==◌, IsOk}
 use Rattle.std.specs.FinMap.{entries}
-use Rattle.std.specs.Int.{w8, w16, w32, w64, to_be_bytes}
+use Rattle.std.specs.Int.{w16, w32, w64, to_be_bytes}
 use Rattle.std.specs.List.{flat_map, AllByRecursion}
 use Rattle.std.proofs.lemmas.Bool.{le-ltb, lt-ltb, ne_eqb}
 use Rattle.std.proofs.lemmas.List.{length-append}
@@ -17,15 +17,14 @@ use Rattle.rr_key.proofs.DecisionLemmas.{Decides-is_key_text}
 use Rattle.rr_codec.specs.declared.fault.CodecFault.{CodecFault}
 use Rattle.rr_codec.specs.Reading.{checked_count}
 use Rattle.rr_journal.specs.declared.cursor.Cursor.{Cursor}
-use Rattle.rr_journal.specs.declared.fault.JournalFault.{JournalFault}
 use Rattle.rr_journal.specs.declared.fault.JournalFault.TheVariants.{BadKey, BadArchive, BadOrigin}
 use Rattle.rr_journal.specs.declared.raw.TheConstants.{FIRST}
 use Rattle.rr_journal.specs.Body.{PackedCells, Meaning, HasCells, HasOrigin, HasJoined, HasEnded, IsGroup, IsMeaning, group_text, body_text, kind_of, as_packed, alone, key_at, archive_at, packed_at, group_at, groups_of, origin_of, cursor_of, count_of, meaning_at}
 use Rattle.rr_journal.specs.Cursor.{IsCursor, cursor_text}
-use Rattle.rr_journal.specs.Fields.{prefix_at, number_at, cursor_at}
+use Rattle.rr_journal.specs.Fields.{prefix_at}
 use Rattle.rr_journal.specs.Laws.{BodiesAreRead}
 use Rattle.rr_journal.proofs.FieldLemmas.{step, prefix_again, byte_again, number16_again, number32_again, number64_again, cursor_again}
-use Rattle.rr_journal.proofs.GroupLemmas.{Groups, groups_left, left_is, one_group, with_groups}
+use Rattle.rr_journal.proofs.GroupLemmas.{left_is, one_group, with_groups}
 
 -- ---- a group
 

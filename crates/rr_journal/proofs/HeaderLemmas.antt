@@ -1,8 +1,8 @@
 -- A header that was written is read.
-use Rattle.std.proofs.Common.{◌≡◌, ℕ, ◌+◌, ◌*◌, ◌^◌, ◌<◌, ◌≤◌, Bool, true, false, List, [], ◌∷◌, ◌++◌, length, take, drop, Option, None, Some, IfSome, Result, Ok, Err, ◌⊎◌, inl, inr, refl, sym, ap, ◌∙◌, append_assoc, arith}
+use Rattle.std.proofs.Common.{◌≡◌, ℕ, Bool, false, List, ◌∷◌, ◌++◌, length, take, Option, None, Some, IfSome, Ok, Err, inr, refl, sym, ap, ◌∙◌, append_assoc, arith}
 use Rattle.std.specs.Prelude.{not, nat_eq, ◌==◌}
 use Rattle.std.specs.Cmp.Lexicographic.{pointwise, bytes_decides}
-use Rattle.std.specs.Int.{w8, w16, w64, to_be_bytes}
+use Rattle.std.specs.Int.{w16, w64, to_be_bytes}
 use Rattle.std.proofs.lemmas.Bool.{eq-eqb}
 use Rattle.std.proofs.lemmas.List.{length-append, take_at}
 use Rattle.rr_text.specs.Results.{◌>>=◌, unless}
@@ -11,10 +11,10 @@ use Rattle.rr_schema.specs.SchemaBytes.{schema_bytes}
 use Rattle.rr_schema.proofs.SchemaBytesLemmas.{schema_len}
 use Rattle.rr_journal.specs.declared.cursor.Cursor.{Cursor}
 use Rattle.rr_journal.specs.declared.fault.JournalFault.{JournalFault}
-use Rattle.rr_journal.specs.declared.fault.JournalFault.TheVariants.{BadMagic, BadVersion, BadDecimals, SchemaDiffers, BadDigest}
+use Rattle.rr_journal.specs.declared.fault.JournalFault.TheVariants.{SchemaDiffers, BadDigest}
 use Rattle.rr_journal.specs.Cursor.{IsCursor, cursor_text}
 use Rattle.rr_journal.specs.Digest.{cut_digest}
-use Rattle.rr_journal.specs.Fields.{prefix_at, number_at, cursor_at}
+use Rattle.rr_journal.specs.Fields.{prefix_at}
 use Rattle.rr_journal.specs.Header.{magic, undigested_header, undigested_len, header_text, header_len, start_at, after_schema, header_at, ReadsHeader}
 use Rattle.rr_journal.specs.Laws.{HeadersAreRead}
 use Rattle.rr_journal.proofs.FieldLemmas.{step, prefix_again, byte_again, number16_again, cursor_again}

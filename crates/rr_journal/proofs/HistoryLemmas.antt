@@ -1,12 +1,12 @@
 -- Two histories that end at one digest are the same, or two texts have one digest.
-use Rattle.std.proofs.Common.{◌≡◌, ℕ, zero, suc, ◌+◌, ◌≤◌, Bool, true, false, List, [], ◌∷◌, ◌++◌, length, take, drop, ◌⊎◌, inl, inr, refl, sym, ap, ◌∙◌, true≢false, arith}
+use Rattle.std.proofs.Common.{◌≡◌, ℕ, Bool, true, false, List, [], ◌∷◌, ◌++◌, length, take, drop, ◌⊎◌, inl, inr, refl, sym, ap, ◌∙◌, true≢false, arith}
 use Rattle.std.specs.Prelude.{◌≢◌, nat_eq}
 use Rattle.std.specs.Cmp.Lexicographic.{pointwise, bytes_decides}
 use Rattle.std.specs.Int.{w32, to_be_bytes}
-use Rattle.std.proofs.lemmas.List.{length-append, take_at, drop_at}
-use Rattle.rr_journal.specs.Digest.{cut_digest, undigested_text, link}
+use Rattle.std.proofs.lemmas.List.{take_at, drop_at}
+use Rattle.rr_journal.specs.Digest.{cut_digest, undigested_text}
 use Rattle.rr_journal.specs.Laws.{Collision, DigestsTellHistories}
-use Rattle.rr_journal.specs.Text.{Raw, after, chain}
+use Rattle.rr_journal.specs.Text.{Raw, after}
 use Rattle.rr_journal.proofs.RecordLemmas.{link_len}
 
 same_or_not : (a b : List ℕ) → (a ≡ b) ⊎ (a ≢ b)

@@ -1,15 +1,14 @@
 -- All records that bytes begin with.
-use Rattle.std.proofs.Common.{◌≡◌, ℕ, zero, suc, ◌+◌, ◌-◌, ◌≤◌, Bool, true, false, leb, List, [], ◌∷◌, ◌++◌, length, take, drop, Option, None, Some, refl, sym, ap, subst, ◌∙◌, append_assoc, append-nil, arith}
+use Rattle.std.proofs.Common.{◌≡◌, ℕ, zero, suc, ◌≤◌, Bool, true, false, List, [], ◌∷◌, ◌++◌, length, Option, None, Some, refl, sym, ap, subst, ◌∙◌, append_assoc, append-nil, arith}
 use Rattle.std.specs.Prelude.{◌==◌, MatchOption, nat_le, if◌then◌else◌}
-use Rattle.std.proofs.lemmas.Bool.{leb-true, leb-false, le-leb}
-use Rattle.std.proofs.lemmas.List.{length-append, length-take, nil_from_length}
+use Rattle.std.proofs.lemmas.Bool.{le-leb}
+use Rattle.std.proofs.lemmas.List.{nil_from_length}
 use Rattle.rr_journal.specs.Laws.{AreBytes}
 use Rattle.rr_journal.specs.declared.step.TheConstants.{MAX_UNSYNCED}
 use Rattle.rr_journal.specs.declared.fault.JournalFault.{JournalFault}
-use Rattle.rr_journal.specs.declared.step.Stop.{Stop}
 use Rattle.rr_journal.specs.declared.step.Stop.TheVariants.{End, Torn, Damaged}
 use Rattle.rr_journal.specs.Text.{Raw, AllFit, after, record_text, records_text, chain}
-use Rattle.rr_journal.specs.Reading.{is_whole, record_at, with_first, first_records, records_of, followed_by, IsDamage, stop_at, stop_before, stop_of}
+use Rattle.rr_journal.specs.Reading.{record_at, with_first, first_records, records_of, followed_by, IsDamage, stop_at, stop_before, stop_of}
 use Rattle.rr_journal.specs.Laws.{RecordsAreReadInTurn, RecordsAreTheirText, RecordsGoOn}
 use Rattle.rr_journal.proofs.RecordLemmas.{Taken, record_again, record_taken, found_len, no_head}
 

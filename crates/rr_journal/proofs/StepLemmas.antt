@@ -1,5 +1,5 @@
 -- One step of a reading from a stream.
-use Rattle.std.proofs.Common.{◌≡◌, ℕ, ◌+◌, ◌-◌, ◌<◌, ◌≤◌, Bool, true, false, ltb, List, [], ◌++◌, length, take, drop, ◌⊎◌, inl, inr, Option, None, Some, IfSome, Result, Ok, Err, refl, sym, ap, subst, ◌∙◌, append-nil, arith}
+use Rattle.std.proofs.Common.{◌≡◌, ℕ, ◌+◌, ◌-◌, ◌<◌, ◌≤◌, Bool, true, false, ltb, List, [], ◌++◌, length, take, drop, Option, None, Some, IfSome, Result, Ok, Err, refl, sym, ap, subst, ◌∙◌, append-nil, arith}
 use Rattle.std.specs.Prelude.{nat_le, nat_eq, ◌&&◌, ◌==◌, if◌then◌else◌}
 use Rattle.std.specs.Cmp.Lexicographic.{pointwise}
 use Rattle.std.specs.Io.KnownBytes.{Consumes, IsAtEnd}
@@ -11,14 +11,14 @@ use Rattle.rr_journal.specs.declared.fault.JournalFault.{JournalFault}
 use Rattle.rr_journal.specs.declared.fault.JournalFault.TheVariants.{TooLong, BadDigest}
 use Rattle.rr_journal.specs.declared.raw.TheConstants.{MAX_BODY_LEN}
 use Rattle.rr_journal.specs.declared.step.Step.{Step}
-use Rattle.rr_journal.specs.declared.step.Step.TheVariants.{Stopped, Whole}
+use Rattle.rr_journal.specs.declared.step.Step.TheVariants.{Whole}
 use Rattle.rr_journal.specs.declared.raw.RawRecord.{RawRecord}
 use Rattle.rr_journal.specs.Digest.{link}
 use Rattle.rr_journal.specs.Text.{Raw, raw_of, after}
 use Rattle.rr_journal.specs.Reading.{stated_len, stated_kind, tail_len, made_of, is_whole, record_after, record_at, fault_at, stop_at, stop_before}
 use Rattle.rr_journal.specs.Stream.{IsStep, OwnDigest, StepsTo, StopsAfter}
 use Rattle.rr_journal.proofs.ReadingLemmas.{few_same}
-use Rattle.rr_journal.proofs.RecordLemmas.{IsWhole, told_whole, tells_whole, no_head, no_tail}
+use Rattle.rr_journal.proofs.RecordLemmas.{no_head, no_tail}
 
 -- so many bytes were taken, or all that there were
 abbrev pub TakesPrefix : ℕ → Option (List ℕ) → Option (List ℕ) → List ℕ → Type 0

@@ -1,8 +1,8 @@
 -- What beginnings of texts are read as, and what stands behind bytes that are synced.
-use Rattle.std.proofs.Common.{◌≡◌, ℕ, zero, suc, ◌+◌, ◌-◌, ◌≤◌, Bool, true, false, leb, List, [], ◌∷◌, ◌++◌, length, take, drop, None, refl, sym, ap, subst, ◌∙◌, append_assoc, arith}
+use Rattle.std.proofs.Common.{◌≡◌, ℕ, zero, suc, ◌-◌, ◌≤◌, Bool, true, false, List, [], ◌∷◌, ◌++◌, length, take, drop, None, refl, sym, ap, subst, ◌∙◌, append_assoc, arith}
 use Rattle.std.specs.Prelude.{nat_le, if◌then◌else◌}
 use Rattle.std.proofs.lemmas.Bool.{leb-true, leb-false}
-use Rattle.std.proofs.lemmas.List.{length-append, length-take, length-drop, take-append-drop, take-append-le, take_at}
+use Rattle.std.proofs.lemmas.List.{length-take, length-drop, take-append-drop, take-append-le}
 use Rattle.rr_journal.specs.declared.step.TheConstants.{MAX_UNSYNCED}
 use Rattle.rr_journal.specs.Text.{Raw, Fits, AllFit, after, record_text, records_text, record_len, chain, whole_within}
 use Rattle.rr_journal.specs.Reading.{record_at, records_of, followed_by, fault_at}

@@ -1,11 +1,11 @@
 -- A record that is written in three pieces.
-use Rattle.std.proofs.Common.{◌≡◌, ℕ, List, [], ◌++◌, Option, refl, sym, subst, ◌∙◌, append-nil}
+use Rattle.std.proofs.Common.{◌≡◌, ℕ, List, [], ◌++◌, Option, sym, subst, append-nil}
 use Rattle.std.specs.Io.KnownBytes.{Appends}
 use Rattle.std.proofs.KnownBytes.{Appends-trans}
 use Rattle.rr_io.specs.Stream.{AppendsPrefix}
 use Rattle.rr_io.proofs.StreamLemmas.{prefix_after, prefix_before}
 use Rattle.rr_journal.specs.Digest.{undigested_text, link}
-use Rattle.rr_journal.specs.Text.{Raw, record_text}
+use Rattle.rr_journal.specs.Text.{record_text}
 
 module _ (first second third : List ℕ) (a b c d : Option (List ℕ)) where
   pub three_whole : Appends a b first → Appends b c second → Appends c d third → Appends a d ((first ++ second) ++ third)

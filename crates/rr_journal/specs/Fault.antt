@@ -1,7 +1,6 @@
 -- The printed names of faults: each is its variant's, or that of the fault below.
-use Rattle.std.specs.Prelude.{◌≡◌, ◌≢◌, ℕ, List, codes, Result, Ok, Err, IfErr}
+use Rattle.std.specs.Prelude.{◌≡◌, ◌≢◌, ℕ, List, codes, Result, Err, IfErr}
 use Rattle.rr_text.specs.Results.{Gives}
-use Rattle.rr_codec.specs.declared.fault.CodecFault.{CodecFault}
 use Rattle.rr_codec.specs.Fault.{codec_fault_name}
 use Rattle.rr_journal.specs.declared.fault.JournalFault.{JournalFault}
 use Rattle.rr_journal.specs.declared.fault.JournalFault.TheVariants.{ReadFailed, Short, BadMagic, BadVersion, BadDecimals, SchemaDiffers, BadDigest, TooLong, BadKind, BadKey, BadArchive, Packed, BadOrigin, TrailingBytes, Memory}

@@ -1,5 +1,5 @@
 -- What stands before the records in a file of a journal.
-use Rattle.std.specs.Prelude.{◌≡◌, ℕ, ◌+◌, ◌^◌, ◌<◌, Bool, not, nat_eq, ◌==◌, List, ◌∷◌, ◌++◌, length, take, drop, codes, Option, Some, IfSome, Result, Ok, Err, ◌⊎◌}
+use Rattle.std.specs.Prelude.{◌≡◌, ℕ, ◌+◌, not, nat_eq, ◌==◌, List, ◌∷◌, ◌++◌, length, take, drop, codes, Option, Some, IfSome, Result, Ok, Err, ◌⊎◌}
 use Rattle.std.specs.Cmp.Lexicographic.{pointwise}
 use Rattle.std.specs.Int.{w8, w16, to_be_bytes}
 use Rattle.rr_text.specs.Results.{◌>>=◌, unless}

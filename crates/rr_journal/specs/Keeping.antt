@@ -1,5 +1,5 @@
 -- What a journal keeps.
-use Rattle.std.specs.Prelude.{◌≡◌, ℕ, ◌≤◌, List, ◌++◌, length, map, Option, None, Some, Result, Ok, Err, take}
+use Rattle.std.specs.Prelude.{◌≡◌, ℕ, List, Option, Result, Ok, Err, take}
 use Rattle.std.specs.Io.KnownBytes.{append_known}
 use Rattle.rr_journal.specs.declared.committing.CommitFault.{CommitFault}
 use Rattle.rr_journal.specs.declared.committing.CommitFault.TheVariants.{NotWritten, NotSynced}

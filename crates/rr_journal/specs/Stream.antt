@@ -6,7 +6,7 @@ use Rattle.rr_journal.specs.declared.fault.JournalFault.TheVariants.{ReadFailed,
 use Rattle.rr_journal.specs.declared.step.Step.{Step}
 use Rattle.rr_journal.specs.declared.step.Step.TheVariants.{Whole, Stopped}
 use Rattle.rr_journal.specs.Cursor.{behind}
-use Rattle.rr_journal.specs.Text.{Raw, Fits, raw_of, after}
+use Rattle.rr_journal.specs.Text.{Fits, raw_of, after}
 use Rattle.rr_journal.specs.Reading.{is_whole, made_of, record_at, stop_at, stop_before}
 
 -- the reader failed, or memory ran out

@@ -1,5 +1,5 @@
 -- The text of a journal's records.
-use Rattle.std.specs.Prelude.{◌≡◌, ℕ, ◌+◌, ◌-◌, ◌%◌, ◌≤◌, nat_le, List, [], ◌∷◌, ◌++◌, length, if◌then◌else◌}
+use Rattle.std.specs.Prelude.{ℕ, ◌+◌, ◌-◌, ◌%◌, ◌≤◌, nat_le, List, [], ◌∷◌, ◌++◌, length, if◌then◌else◌}
 use Rattle.std.specs.List.{AllByRecursion}
 use Rattle.rr_journal.specs.declared.raw.RawRecord.{RawRecord}
 use Rattle.rr_journal.specs.declared.raw.TheConstants.{MAX_BODY_LEN, BESIDES_LEN, FIRST}

@@ -18,17 +18,17 @@ use thiserror::Error;
 /// Why records are not committed.
 #[derive(Clone, Copy, Debug, PartialEq, Eq, Error)]
 pub enum CommitFault {
-    /// They could not be written, and what was written of them is taken back. It may be tried
+    /// They could not be written, and what was written of them is taken back. They can be committed
     /// again.
     #[error("the journal could not be written")]
     NotWritten,
-    /// A sync failed, or what was written could not be taken back. What a crash leaves is known
-    /// only up to the last sync: the journal is to be opened and read again.
+    /// A sync failed, or what was written could not be taken back. What the journal holds is known
+    /// only up to the last sync that succeeded: it is to be opened and read again.
     #[error("the journal could not be synced")]
     NotSynced,
 }
 
-/// Writes a record after the one with this digest, which then is that of the record.
+/// Appends a record after the one with this digest, which then is its own.
 fn append_record<J: Journal>(
     journal: &mut J,
     digest: &mut [u8; DIGEST_LEN],
@@ -49,7 +49,8 @@ fn append_record<J: Journal>(
     Ok(())
 }
 
-/// Writes records, each after the one before it, the first after the one with this digest.
+/// Appends records, the first of them after the one with this digest, which then is that of the
+/// last.
 fn append_all<J: Journal>(
     journal: &mut J,
     digest: &mut [u8; DIGEST_LEN],
@@ -67,7 +68,7 @@ fn append_all<J: Journal>(
     Ok(())
 }
 
-/// Writes the records between two syncs, the first of them as the first one after a sync.
+/// Appends the records between two syncs, the first of them as the first one after a sync.
 fn append_batch<J: Journal>(
     journal: &mut J,
     digest: &mut [u8; DIGEST_LEN],
@@ -99,11 +100,11 @@ fn batch_len(records: &[RawRecord]) -> Option<usize>
 {
     let mut len = 0;
     for raw in records {
-        let left = MAX_UNSYNCED - len;
-        if raw.body.len() > left || BESIDES_LEN + raw.body.len() > left {
+        let own = BESIDES_LEN + raw.body.len();
+        if own > MAX_UNSYNCED - len {
             return None;
         }
-        len += BESIDES_LEN + raw.body.len();
+        len += own;
     }
     Some(len)
 }
@@ -115,18 +116,18 @@ pub fn fits_between_syncs(records: &[RawRecord]) -> bool
     batch_len(records).is_some()
 }
 
-/// Writes records at the end of a journal, a place that is then the one behind them, and syncs
-/// them, so that what they mean may be acknowledged: a crash leaves them, and all before them.
+/// Appends records to a journal and syncs them, so that what they mean may be acknowledged: a crash
+/// leaves them, and all before them. `cursor` is the end of the journal, and moves with it.
 ///
-/// They have at most [`MAX_UNSYNCED`](crate::MAX_UNSYNCED) bytes, and all that was written before
-/// is synced. `NotWritten` leaves all as it was; after `NotSynced` what was synced before still is,
-/// and the journal is to be opened and read again. In neither case may they be acknowledged.
+/// They have at most [`MAX_UNSYNCED`](crate::MAX_UNSYNCED) bytes, as [`fits_between_syncs`] tells,
+/// and all that was written before is synced. Nothing of them may be acknowledged after a refusal:
+/// `NotWritten` leaves all as it was, so that they can be committed again; after `NotSynced` what
+/// was synced before still is, and the journal is to be opened and read again.
 pub fn commit<J: Journal>(
     journal: &mut J,
     cursor: &mut Cursor,
     records: &[RawRecord],
 ) -> Result<(), CommitFault>
-    requires fits { All (λ r. length r.body.items ≤ MAX_BODY_LEN) records.now }
     requires few { records_len (map raw_of records.now) ≤ MAX_UNSYNCED }
     requires synced { J.text journal.old ≡ J.synced journal.old }
     ensures { Commits (J.synced journal.old) (J.synced journal.new) (J.text journal.new)

@@ -31,7 +31,7 @@ pub(crate) fn cut_digest(text: &[u8]) -> [u8; DIGEST_LEN]
 
 /// The digest of a record after that of the record before it. The cost is linear in the body.
 #[tactic(auto, unfolding(crate::specs::Digest::cut_digest))]
-pub fn link(before: &[u8; DIGEST_LEN], kind: u8, body: &[u8]) -> [u8; DIGEST_LEN]
+pub(crate) fn link(before: &[u8; DIGEST_LEN], kind: u8, body: &[u8]) -> [u8; DIGEST_LEN]
     requires { length body.now < 2 ^ 32 }
     ensures { result ≡ link before.now kind body.now }
 {

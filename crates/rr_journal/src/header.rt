@@ -1,6 +1,7 @@
 //! What stands before the records in a file of a journal.
 ghost use Rattle.std.specs.Prelude.{◌≡◌, ◌≤◌, IfOk, length};
 ghost use Rattle.rr_io.specs.Counted.{inner_of};
+ghost use Rattle.rr_io.specs.Stream.{KeepsFailures, ReadsSome};
 ghost use Rattle.rr_schema.specs.SchemaBytes.{schema_bytes};
 ghost use Rattle.rr_journal.specs.Fault.{Finds};
 ghost use Rattle.rr_journal.specs.Header.{after_schema, header_at, header_len, header_text, start_at, undigested_len, ReadsHeader};
@@ -135,8 +136,10 @@ pub fn header_from<R: Read>(
     input: &mut Counted<R>,
     schema: &Schema,
 ) -> Result<Cursor, JournalFault>
-    ensures { ReadsHeader schema.now (R.remaining (inner_of input.old))
+    ensures read { ReadsHeader schema.now (R.remaining (inner_of input.old))
         (R.remaining (inner_of input.new)) result }
+    ensures prefix { ReadsSome R.remaining input.old input.new }
+    ensures failures_never_fall { KeepsFailures input.old input.new }
 {
     let len = undigested_len(schema) + DIGEST_LEN;
     let bytes = bytes_from(alloc, input, len)?;

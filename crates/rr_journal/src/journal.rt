@@ -7,10 +7,10 @@ use thiserror::Error;
 #[error("the journal could not be written")]
 pub struct JournalFailed;
 
-/// Where a node writes records, so that they are there after a crash.
+/// Where a node writes records, so that they survive a crash.
 ///
-/// It is seen as the bytes of its records, where they are known, and those of them that are synced:
-/// a crash leaves these, and behind them whatever.
+/// Contracts see it as its text, the bytes that were written, and the part of it that is synced,
+/// where these are known. A crash leaves what is synced, followed by anything at all.
 pub trait Journal {
     ghost use Rattle.std.specs.Prelude.{◌≡◌, ℕ, List, OnOk, Option};
     ghost use Rattle.std.specs.Io.KnownBytes.{append_known};
@@ -20,12 +20,12 @@ pub trait Journal {
 
     ghost synced: { Self → Option (List ℕ) };
 
-    /// Writes a piece behind all others. Where that fails, some of it may be written.
+    /// Appends a piece. Where that fails, some of it may be written.
     fn append(&mut self, piece: &[u8]) -> Result<(), JournalFailed>
         ensures text { OnOk result (text self.new ≡ append_known (text self.old) piece.now) }
         ensures synced { synced self.new ≡ synced self.old };
 
-    /// Has all that was written stay after a crash. Where that fails, some of it may stay.
+    /// Makes all that was written survive a crash. Where that fails, some of it may.
     fn sync(&mut self) -> Result<(), JournalFailed>
         ensures text { text self.new ≡ text self.old }
         ensures whole { OnOk result (synced self.new ≡ text self.old) }

@@ -13,7 +13,8 @@
 //! kind +128  the record is the first one after a sync
 //! ```
 //!
-//! Numbers are big-endian. A digest is the first eight bytes of a SHA-256; that of a record is of
+//! Numbers are big-endian. A record has at most 1 MiB, and no more is written between two syncs. A
+//! digest is the first eight bytes of a SHA-256; that of a record is of
 //! the digest of the record before it, and of its own length, kind and body. A header names its
 //! place in the journal, a [`Cursor`]: the journal's id, how many bytes of records there are before
 //! the file, and the digest of the last of them, after which the first record chains. So a record
@@ -50,7 +51,7 @@ mod writing;
 pub use committing::{CommitFault, commit, fits_between_syncs};
 pub use cursor::{Cursor, ID_LEN};
 pub use decoding::decode;
-pub use digest::{DIGEST_LEN, link};
+pub use digest::DIGEST_LEN;
 pub use encoding::encode;
 pub use fault::JournalFault;
 pub use group::Group;

@@ -139,14 +139,14 @@ fn read_after<R: Read>(
     Ok(Step::Whole(record_of(&head, tail)))
 }
 
-/// Reads the record at a place of a journal, which is then the one behind it.
+/// Reads the record at `cursor`, and moves `cursor` past it.
 ///
-/// `Step::Stopped` is that no record is there, whole and with the digest that it should have; then
-/// the place is the end of what was read, and no more can be read. One record is in memory at a
-/// time, of at most [`MAX_RECORD_LEN`](crate::MAX_RECORD_LEN) bytes; one that states more is
-/// refused before memory is taken for it. Where none is whole, at most
-/// [`MAX_UNSYNCED`](crate::MAX_UNSYNCED) bytes and one more are read to tell a torn tail from
-/// damage. Refused as `ReadFailed` and `Memory`; the place is then as it was.
+/// `Step::Stopped` tells that no record is there, whole and with the digest that it should have;
+/// `cursor` then stays, at the end of what can be read. One record is in memory at a time, of at
+/// most [`MAX_RECORD_LEN`](crate::MAX_RECORD_LEN) bytes; one that states more is refused before
+/// memory is taken for it. Where none is whole, at most [`MAX_UNSYNCED`](crate::MAX_UNSYNCED) bytes
+/// and one more are read, to tell a torn tail from damage. Refused as `ReadFailed` and `Memory`;
+/// `cursor` then stays too. The cost is linear in the bytes that are read.
 pub fn read_record<R: Read>(
     alloc: Global,
     input: &mut Counted<R>,

@@ -5,8 +5,8 @@ ghost use Rattle.rr_journal.specs.Reading.{stop_at};
 use crate::fault::JournalFault;
 use crate::raw::RawRecord;
 
-/// The most bytes that a writer leaves unsynced, and so the most that a crash tears. Where more are
-/// behind the last whole record, some are damaged that were synced.
+/// The most bytes that a writer leaves unsynced, and so the most that a crash tears. Where more
+/// follow the last whole record, synced bytes are damaged.
 pub const MAX_UNSYNCED: usize = 1_048_576;
 
 const _: () = prove!(MAX_UNSYNCED == 1_048_576);

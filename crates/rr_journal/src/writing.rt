@@ -21,7 +21,7 @@ pub(crate) fn head(kind: u8, body: &[u8]) -> [u8; HEAD_LEN]
     [a, b, c, d, kind]
 }
 
-/// Writes a record after the one with this digest, which then is that of the record.
+/// Writes a record after the one with this digest, which then is its own.
 fn write_after<W: Write>(
     output: &mut Counted<W>,
     digest: &mut [u8; DIGEST_LEN],
@@ -43,9 +43,8 @@ fn write_after<W: Write>(
     Ok(())
 }
 
-/// Writes a record at a place of a journal, which is then the one behind it. After a failure a
-/// prefix of it was written, and the place is as it was. So a checkpoint is written, which is synced
-/// once, at its end.
+/// Writes a record at `cursor`, and moves `cursor` past it. After a failure a prefix of the record
+/// was written, and `cursor` stays. Checkpoints are written so, and synced once at their end.
 pub fn write_record<W: Write>(
     output: &mut Counted<W>,
     cursor: &mut Cursor,

@@ -1,6 +1,6 @@
-use Rattle.std.proofs.Common.{◌≡◌, ◌<◌, length, List, [], ◌∷◌, ◌++◌, sym, ap, ◌∙◌, rules}
+use Rattle.std.proofs.Common.{[], ◌∷◌, ◌++◌, sym, rules}
 use Rattle.std.proofs.lemmas.Result.{err_from_is_err_and}
-use Rattle.rr_journal.specs.Body.{PackedCells, group_at}
+use Rattle.rr_journal.specs.Body.{group_at}
 use Rattle.rr_journal.proofs.GroupLemmas.{begins, ends, goes_on, group_shorter, no_group, rest_found, rest_faulty}
 use Rattle.rr_journal.proofs.grouping.check_groups.Goals as goal
 

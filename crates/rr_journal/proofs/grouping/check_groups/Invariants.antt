@@ -1,4 +1,4 @@
-use Rattle.std.proofs.Common.{◌≡◌, ℕ, List, length}
+use Rattle.std.proofs.Common.{◌≡◌, List, length}
 use Rattle.rr_journal.specs.Body.{PackedCells, groups_of}
 use Rattle.rr_journal.proofs.GroupLemmas.{groups_left, with_groups}
 use Rattle.rr_journal.proofs.grouping.check_groups.Given as goal

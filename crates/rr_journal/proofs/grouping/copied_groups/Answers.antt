@@ -1,4 +1,4 @@
-use Rattle.std.proofs.Common.{◌≡◌, ◌<◌, ◌==◌, length, map, List, [], ◌∷◌, ◌++◌, inl, inr, false, sym, ap, subst, ◌∙◌}
+use Rattle.std.proofs.Common.{◌≡◌, map, List, [], ◌∷◌, ◌++◌, inl, inr, sym, ap, subst, ◌∙◌}
 use Rattle.std.proofs.lemmas.Result.{err_from_is_err_and}
 use Rattle.rr_journal.specs.declared.group.Group.{Group}
 use Rattle.rr_journal.specs.Body.{PackedCells, groups_of, packed_cells}

@@ -1,4 +1,4 @@
-use Rattle.std.proofs.Common.{◌≡◌, ℕ, map, length}
+use Rattle.std.proofs.Common.{◌≡◌, map, length}
 use Rattle.rr_journal.specs.Body.{packed_cells, groups_of}
 use Rattle.rr_journal.proofs.GroupLemmas.{groups_left, with_groups}
 use Rattle.rr_journal.proofs.grouping.copied_groups.Given as goal

@@ -1,4 +1,4 @@
-use Rattle.std.proofs.Common.{◌≡◌, ◌≤◌, ◌<◌, length, Ok, Err, inl, inr, ap, sym, ◌∙◌, arith}
+use Rattle.std.proofs.Common.{inl, inr, ap, sym, ◌∙◌, arith}
 use Rattle.std.proofs.lemmas.Result.{err_from_is_err_and}
 use Rattle.rr_io.specs.Counted.{inner_of}
 use Rattle.rr_journal.specs.Header.{header_at, header_len}
@@ -6,8 +6,8 @@ use Rattle.rr_journal.proofs.HeaderLemmas.{header_read, header_refused}
 use Rattle.rr_journal.proofs.StepLemmas.{takes_prefix}
 use Rattle.rr_journal.proofs.header.header_from.Goals as goal
 
-pub returns-in_err-bytes : goal.returns-in_err-bytes
-returns-in_err-bytes g c =
+pub returns-in_err-bytes-clause-read : goal.returns-in_err-bytes-clause-read
+returns-in_err-bytes-clause-read g c =
     let p = err_from_is_err_and c.from_residual.result c.from_residual.ensures.1 in
     rw (p.1, p.2)
     (elim c.in_err-bytes.ensures.faults [
@@ -15,8 +15,8 @@ returns-in_err-bytes g c =
       | inr memory ↦ inr (inl memory)
     ])
 
-pub returns-in-Ok : goal.returns-in-Ok
-returns-in-Ok g c =
+pub returns-in-Ok-clause-read : goal.returns-in-Ok-clause-read
+returns-in-Ok-clause-read g c =
     let s = c.args.schema.now in
     let old = g.R.Read.remaining (inner_of c.args.input.now) in
     let new = g.R.Read.remaining (inner_of c.bytes_from.new.input) in
@@ -27,8 +27,8 @@ returns-in-Ok g c =
     header_read s bytes old new taken c.in-Ok.cursor c.in-Ok.field-0-1.now
     (ap (header_at s) (sym c.as_slice.ensures.value) ∙ c.in-Ok.ensures.read)
 
-pub returns : goal.returns
-returns g c =
+pub returns-clause-read : goal.returns-clause-read
+returns-clause-read g c =
     let s = c.args.schema.now in
     let old = g.R.Read.remaining (inner_of c.args.input.now) in
     let new = g.R.Read.remaining (inner_of c.bytes_from.new.input) in
