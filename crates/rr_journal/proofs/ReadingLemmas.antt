@@ -9,7 +9,7 @@ use Rattle.rr_journal.specs.declared.fault.JournalFault.{JournalFault}
 use Rattle.rr_journal.specs.declared.step.Stop.TheVariants.{End, Torn, Damaged}
 use Rattle.rr_journal.specs.Text.{Raw, AllFit, after, record_text, records_text, chain}
 use Rattle.rr_journal.specs.Reading.{record_at, with_first, first_records, records_of, followed_by, IsDamage, stop_at, stop_before, stop_of}
-use Rattle.rr_journal.specs.Laws.{RecordsAreReadInTurn, RecordsAreTheirText, RecordsGoOn}
+use Rattle.rr_journal.specs.Laws.{RecordsAreReadInTurn, RecordsAreTheirText, RecordsGoOn, TextsAreRead}
 use Rattle.rr_journal.proofs.RecordLemmas.{Taken, record_again, record_taken, found_len, no_head}
 
 abbrev Records : Type 0
@@ -83,6 +83,13 @@ reading_goes_on before (r ∷ rs) more fits =
     ∙ one_first before _ (r, records_text (after before r) rs ++ more)
     (record_again before r (records_text (after before r) rs ++ more) fits.0)
     ∙ ap (followed_by (r ∷ [])) (reading_goes_on (after before r) rs more fits.1)
+
+pub texts_are_read : TextsAreRead
+texts_are_read before rs fits =
+    ap (records_of before) (sym (append-nil (records_text before rs)))
+    ∙ reading_goes_on before rs [] fits
+    ∙ ap (followed_by rs) (none_first (chain before rs) [] (nothing_at (chain before rs)))
+    ∙ ap (λ (l : List Raw). (l, [])) (append-nil rs)
 
 pub record IsReading (before bytes : List ℕ) (x : List Raw × List ℕ) : Type 0 where
   pub entries : AllFit x.0

@@ -5,8 +5,8 @@ use Rattle.std.proofs.lemmas.Bool.{leb-true, leb-false}
 use Rattle.std.proofs.lemmas.List.{length-take, length-drop, take-append-drop, take-append-le}
 use Rattle.rr_journal.specs.declared.step.TheConstants.{MAX_UNSYNCED}
 use Rattle.rr_journal.specs.Text.{Raw, Fits, AllFit, after, record_text, records_text, record_len, chain, whole_within}
-use Rattle.rr_journal.specs.Reading.{record_at, records_of, followed_by, fault_at}
-use Rattle.rr_journal.specs.Laws.{TextsGoOn, PrefixesAreRead, SyncedIsRead}
+use Rattle.rr_journal.specs.Reading.{IsDamage, stop_of, record_at, records_of, followed_by, fault_at}
+use Rattle.rr_journal.specs.Laws.{CommittedIsRead, TextsGoOn, PrefixesAreRead, SyncedIsRead}
 use Rattle.rr_journal.proofs.RecordLemmas.{record_again, text_len, prefix_is_none}
 use Rattle.rr_journal.proofs.ReadingLemmas.{nothing_at, none_first, one_first, reading_goes_on, left_at_most, not_damaged}
 
@@ -122,3 +122,13 @@ synced_is_read before rs tail fits few =
       not_damaged (fault_at (records_of before (records_text before rs ++ tail)).1)
           (length (records_of before (records_text before rs ++ tail)).1) left,
     )
+
+all_fit : (rs ss : List Raw) → AllFit rs → AllFit ss → AllFit (rs ++ ss)
+all_fit [] ss p q = q
+all_fit (r ∷ rs) ss p q = (p.0, all_fit rs ss p.1 q)
+
+pub committed_is_read : CommittedIsRead
+committed_is_read before rs added tail p q few =
+    subst (λ (l : List ℕ). ((later : List Raw) × ((records_of before (l ++ tail)).0 ≡ (rs ++ added) ++ later))
+    × ¬ IsDamage (stop_of before (l ++ tail))) (texts_go_on before rs added)
+    (synced_is_read before (rs ++ added) tail (all_fit rs added p q) few)

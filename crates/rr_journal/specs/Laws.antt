@@ -43,6 +43,10 @@ TextsGoOn =
     (before : List ℕ) (rs ss : List Raw)
     → records_text before (rs ++ ss) ≡ records_text before rs ++ records_text (chain before rs) ss
 
+-- so a text is read as its records
+abbrev pub TextsAreRead : Type 0
+TextsAreRead = (before : List ℕ) (rs : List Raw) → AllFit rs → records_of before (records_text before rs) ≡ (rs, [])
+
 -- of the beginning of a text the whole records are read, and what is left is never taken for damage
 abbrev pub PrefixesAreRead : Type 0
 PrefixesAreRead =
@@ -57,6 +61,15 @@ SyncedIsRead =
     (before : List ℕ) (rs : List Raw) (tail : List ℕ) → AllFit rs → length tail ≤ MAX_UNSYNCED
     → ((later : List Raw) × ((records_of before (records_text before rs ++ tail)).0 ≡ rs ++ later))
     × ¬ IsDamage (stop_of before (records_text before rs ++ tail))
+
+-- so is what was committed behind it, as its text was appended to it
+abbrev pub CommittedIsRead : Type 0
+CommittedIsRead =
+    (before : List ℕ) (rs added : List Raw) (tail : List ℕ) → AllFit rs → AllFit added → length tail ≤ MAX_UNSYNCED
+    → ((later : List Raw)
+    × ((records_of before ((records_text before rs ++ records_text (chain before rs) added) ++ tail)).0
+    ≡ (rs ++ added) ++ later))
+    × ¬ IsDamage (stop_of before ((records_text before rs ++ records_text (chain before rs) added) ++ tail))
 
 -- two texts with the same cut digest
 pub record Collision : Type 0 where

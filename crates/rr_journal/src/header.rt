@@ -107,6 +107,14 @@ fn undigested_len(schema: &Schema) -> usize
     BESIDES_LEN + schema_len(schema) as usize
 }
 
+/// How many bytes the header of a file has, behind which its records begin.
+pub fn header_len(schema: &Schema) -> usize
+    ensures value { result ≡ header_len schema.now }
+    ensures few { result ≤ 125 }
+{
+    undigested_len(schema) + DIGEST_LEN
+}
+
 /// The header at the beginning of the bytes, and what follows it.
 #[tactic(auto, unfolding(crate::specs::Header::header_at))]
 fn header_of<'a>(bytes: &'a [u8], schema: &Schema) -> Result<(Cursor, &'a [u8]), JournalFault>
@@ -141,8 +149,7 @@ pub fn header_from<R: Read>(
     ensures prefix { ReadsSome R.remaining input.old input.new }
     ensures failures_never_fall { KeepsFailures input.old input.new }
 {
-    let len = undigested_len(schema) + DIGEST_LEN;
-    let bytes = bytes_from(alloc, input, len)?;
+    let bytes = bytes_from(alloc, input, header_len(schema))?;
     match header_of(bytes.as_slice(), schema) {
         Ok((cursor, _)) => Ok(cursor),
         Err(fault) => Err(fault),

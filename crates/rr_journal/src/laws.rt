@@ -1,5 +1,5 @@
 //! The laws of the texts of journals, with no work to do: the functions have empty bodies.
-ghost use Rattle.rr_journal.specs.Laws.{BodiesAreRead, DigestsTellHistories, HeadersAreRead, PrefixesAreRead, RecordsAreReadInTurn, RecordsAreTheirText, RecordsGoOn, SyncedIsRead, TextsGoOn};
+ghost use Rattle.rr_journal.specs.Laws.{BodiesAreRead, CommittedIsRead, DigestsTellHistories, HeadersAreRead, PrefixesAreRead, RecordsAreReadInTurn, RecordsAreTheirText, RecordsGoOn, SyncedIsRead, TextsAreRead, TextsGoOn};
 
 /// Bytes are read as records exactly where they are the text of these, each chained to the one
 /// before, up to where none is whole.
@@ -13,10 +13,11 @@ pub fn records_are_read_in_turn()
     ensures { RecordsAreReadInTurn }
 {}
 
-/// Records that are appended to those that were read go on.
+/// A text is read as its records, and those that are appended to it go on.
 pub fn records_go_on()
     ensures read { RecordsGoOn }
     ensures texts { TextsGoOn }
+    ensures alone { TextsAreRead }
 {}
 
 /// Of a prefix of a text, wherever it is cut, the whole records are read.
@@ -24,9 +25,11 @@ pub fn prefixes_are_read()
     ensures { PrefixesAreRead }
 {}
 
-/// What is synced is read, whatever a crash made of what stands behind it.
+/// What is synced is read, whatever a crash made of what stands behind it; and so is what is then
+/// committed, as [`commit`](crate::commit) appends and syncs it.
 pub fn synced_is_read()
-    ensures { SyncedIsRead }
+    ensures synced { SyncedIsRead }
+    ensures committed { CommittedIsRead }
 {}
 
 /// A header that was written is read.

@@ -55,7 +55,7 @@ pub use digest::DIGEST_LEN;
 pub use encoding::encode;
 pub use fault::JournalFault;
 pub use group::Group;
-pub use header::{DECIMALS, header_bytes, header_from};
+pub use header::{DECIMALS, header_bytes, header_from, header_len};
 pub use journal::{Journal, JournalFailed};
 pub use meaning::Record;
 pub use memory::MemoryJournal;

@@ -20,7 +20,11 @@ const _: () = prove!(MAX_RECORD_LEN == 1_048_576);
 
 const _: () = prove!(HEAD_LEN == 5);
 
+const _: () = prove!(BESIDES_LEN == 13);
+
 const _: () = prove!(BESIDES_LEN == HEAD_LEN + DIGEST_LEN);
+
+const _: () = prove!(MAX_BODY_LEN == 1_048_563);
 
 const _: () = prove!(MAX_BODY_LEN + BESIDES_LEN == MAX_RECORD_LEN);
 

@@ -1,4 +1,4 @@
-use Rattle.std.proofs.Common.{ℕ, zero, suc, ◌+◌, ◌<◌, ◌≤◌, List, [], ◌∷◌, length, get_or, map, arith}
+use Rattle.std.proofs.Common.{rules, ℕ, zero, suc, ◌+◌, ◌<◌, ◌≤◌, List, [], ◌∷◌, length, get_or, map, arith}
 use Rattle.rr_journal.specs.declared.raw.RawRecord.{RawRecord}
 use Rattle.rr_journal.specs.Text.{raw_of, records_len}
 use Rattle.rr_journal.proofs.committing.commit.Goals as goal
@@ -12,3 +12,6 @@ each_fits (r ∷ rs) (suc i) d lt = omega (arith, each_fits rs i d (omega (arith
 
 pub append_batch-requires : goal.append_batch-requires
 append_batch-requires g c = λ i d lt. omega (arith, c.requires.few, each_fits c.args.records.now i d lt)
+
+pub returns : goal.returns
+returns g c = search rules

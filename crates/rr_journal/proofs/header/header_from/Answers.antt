@@ -22,8 +22,8 @@ returns-in-Ok-clause-read g c =
     let new = g.R.Read.remaining (inner_of c.bytes_from.new.input) in
     let bytes = c.in_ok-bytes.bytes.items in
     let taken = takes_prefix (header_len s) old new bytes c.in_ok-bytes.ensures.bytes
-    (omega (arith, c.in_ok-bytes.ensures.bound, c.undigested_len-len.ensures.value))
-    (λ lt. c.in_ok-bytes.ensures.end (omega (arith, lt, c.undigested_len-len.ensures.value))) in
+    (omega (arith, c.in_ok-bytes.ensures.bound, c.header_len.ensures.value))
+    (λ lt. c.in_ok-bytes.ensures.end (omega (arith, lt, c.header_len.ensures.value))) in
     header_read s bytes old new taken c.in-Ok.cursor c.in-Ok.field-0-1.now
     (ap (header_at s) (sym c.as_slice.ensures.value) ∙ c.in-Ok.ensures.read)
 
@@ -34,7 +34,7 @@ returns-clause-read g c =
     let new = g.R.Read.remaining (inner_of c.bytes_from.new.input) in
     let bytes = c.in_ok-bytes.bytes.items in
     let taken = takes_prefix (header_len s) old new bytes c.in_ok-bytes.ensures.bytes
-    (omega (arith, c.in_ok-bytes.ensures.bound, c.undigested_len-len.ensures.value))
-    (λ lt. c.in_ok-bytes.ensures.end (omega (arith, lt, c.undigested_len-len.ensures.value))) in
+    (omega (arith, c.in_ok-bytes.ensures.bound, c.header_len.ensures.value))
+    (λ lt. c.in_ok-bytes.ensures.end (omega (arith, lt, c.header_len.ensures.value))) in
     header_refused s bytes old new taken c.in-Err.fault
     (ap (header_at s) (sym c.as_slice.ensures.value) ∙ c.in-Err.ensures.read)
