@@ -1,0 +1,192 @@
+-- Spans with a time more, and which series changed.
+use Rattle.std.proofs.Common.{◌≡◌, ◌≢◌, ℕ, zero, suc, ◌<◌, ◌≤◌, ℤ, Bool, true, false, cond, not, ◌&&◌, ◌||◌, List, [], ◌∷◌, ◌++◌, length, drop, replicate, set, slice_get, get_or, refl, sym, ap, ◌∙◌, subst, arith, true≢false, Option, Some, None, unwrap_or, is_some, ⊎_elim, ◌⊎◌, inl, inr}
+use Rattle.std.specs.Prelude.{int_le, int_lt, nat_eq, ◌==◌, All, Contains, if◌then◌else◌}
+use Rattle.std.specs.Cmp.Lexicographic.{pointwise, bytes_decides}
+use Rattle.std.specs.Int.{int_min, int_max}
+use Rattle.std.specs.List.{list_any, AllByRecursion}
+use Rattle.std.proofs.lemmas.Bool.{and_from, eqb-true, eq-eqb, or_left, or_right, false_from_ne_true}
+use Rattle.std.proofs.lemmas.Int.{ints}
+use Rattle.std.proofs.lemmas.List.Elements.{All-from_recursion, Contains-append_cases, Contains-push_cases}
+use mathlib.Core.List.{IsPrefix}
+use Rattle.rr_join.proofs.Booleans.{and_first, and_second, either_case}
+use Rattle.rr_cells.specs.declared.op.Op.{Op}
+use Rattle.rr_cells.specs.Operations.{op_key}
+use Rattle.rr_changes.specs.declared.changed_series.ChangedSeries.{ChangedSeries}
+use Rattle.rr_changes.specs.declared.span.Span.{Span}
+use Rattle.rr_changes.specs.declared.span.Spans.{Spans}
+use Rattle.rr_changes.specs.declared.span.TheConstants.{UNCHANGED}
+use Rattle.rr_changes.specs.Updates.{op_time}
+use Rattle.rr_changes.specs.Spans.{is_changed, is_empty, is_in_span, is_in_spans, is_nearer_recent, widened, with_time}
+use Rattle.rr_changes.specs.Tracking.{AreChangedSeries, AreListed, AreNoted, ChangedState, IsNoted, IsSeriesAt, is_listed, spans_at, spans_of}
+use Rattle.rr_changes.specs.Changes.{is_covered, is_op_in}
+use Rattle.rr_changes.specs.ChangeLaws.{NotedOperationsAreCovered, NotedTimesAreIn, OperationsAreNoted, TimesStayIn}
+
+-- ---- a time more
+
+widened_has : (p : Span) (time : ℤ) → is_in_span (widened p time) time ≡ true
+widened_has p time = here p.first p.last time
+  where
+    here : (a b t : ℤ) → (int_le (int_min a t) t && int_le t (int_max b t)) ≡ true
+    here a b t = grind (arith, ints)
+
+widened_still : (p : Span) (time other : ℤ) → is_in_span p other ≡ true → is_in_span (widened p time) other ≡ true
+widened_still p time other e = wider p.first p.last time other e
+  where
+    wider : (a b t u : ℤ) → (int_le a u && int_le u b) ≡ true → (int_le (int_min a t) u && int_le u (int_max b t)) ≡ true
+    wider a b t u e = grind (arith, ints)
+
+pub noted_times_are_in : NotedTimesAreIn
+noted_times_are_in near ps time = elim (is_nearer_recent near ps time) as (λ b. is_in_spans
+    (if b then record { recent = widened ps.recent time; late = ps.late }
+    else record { recent = ps.recent; late = widened ps.late time }) time ≡ true) [
+      | true ↦ or_left (is_in_span (widened ps.recent time) time) (is_in_span ps.late time) (widened_has ps.recent time)
+      | false ↦ or_right (is_in_span ps.recent time) (is_in_span (widened ps.late time) time) (widened_has ps.late time)
+    ]
+
+pub times_stay_in : TimesStayIn
+times_stay_in near ps time other e = elim (is_nearer_recent near ps time) as (λ b. is_in_spans
+    (if b then record { recent = widened ps.recent time; late = ps.late }
+    else record { recent = ps.recent; late = widened ps.late time }) other ≡ true) [
+      | true ↦ either_case (is_in_span ps.recent other) (is_in_span ps.late other) e
+          (λ h. or_left (is_in_span (widened ps.recent time) other) (is_in_span ps.late other)
+          (widened_still ps.recent time other h))
+          (λ h. or_right (is_in_span (widened ps.recent time) other) (is_in_span ps.late other) h)
+      | false ↦ either_case (is_in_span ps.recent other) (is_in_span ps.late other) e
+          (λ h. or_left (is_in_span ps.recent other) (is_in_span (widened ps.late time) other) h)
+          (λ h. or_right (is_in_span ps.recent other) (is_in_span (widened ps.late time) other)
+          (widened_still ps.late time other h))
+    ]
+
+-- a span that has a time isn't empty
+has_time : (p : Span) (time : ℤ) → is_in_span p time ≡ true → not (is_empty p) ≡ true
+has_time p time e = some p.first p.last time e
+  where
+    some : (a b t : ℤ) → (int_le a t && int_le t b) ≡ true → not (int_lt b a) ≡ true
+    some a b t e = grind (arith, ints)
+
+pub changed_there : (ps : Spans) (time : ℤ) → is_in_spans ps time ≡ true → is_changed ps ≡ true
+changed_there ps time e = either_case (is_in_span ps.recent time) (is_in_span ps.late time) e
+    (λ h. or_left (not (is_empty ps.recent)) (not (is_empty ps.late)) (has_time ps.recent time h))
+    (λ h. or_right (not (is_empty ps.recent)) (not (is_empty ps.late)) (has_time ps.late time h))
+
+pub with_time_changed : (near : ℕ) (ps : Spans) (time : ℤ) → is_changed (with_time near ps time) ≡ true
+with_time_changed near ps time = changed_there (with_time near ps time) time (noted_times_are_in near ps time)
+
+-- ---- spans by number
+
+pub spans_set_here : (spans : List Spans) (i : ℕ) (p : Spans) → i < length spans → spans_at (set spans i p) i ≡ p
+spans_set_here [] i p lt = absurd (omega arith)
+spans_set_here (q ∷ spans) zero p lt = refl
+spans_set_here (q ∷ spans) (suc i) p lt = spans_set_here spans i p (omega arith)
+
+pub spans_set_other : (spans : List Spans) (i j : ℕ) (p : Spans) → j ≢ i → spans_at (set spans i p) j ≡ spans_at spans j
+spans_set_other [] i j p ne = refl
+spans_set_other (q ∷ spans) zero zero p ne = absurd (ne refl)
+spans_set_other (q ∷ spans) zero (suc j) p ne = refl
+spans_set_other (q ∷ spans) (suc i) zero p ne = refl
+spans_set_other (q ∷ spans) (suc i) (suc j) p ne = spans_set_other spans i j p (λ e. ne (ap suc e))
+
+-- places more, of series that haven't changed
+pub spans_same : (spans : List Spans) (n i : ℕ) → spans_at (spans ++ replicate n UNCHANGED) i ≡ spans_at spans i
+spans_same [] zero i = refl
+spans_same [] (suc n) zero = refl
+spans_same [] (suc n) (suc i) = spans_same [] n i
+spans_same (q ∷ spans) n zero = refl
+spans_same (q ∷ spans) n (suc i) = spans_same spans n i
+
+-- ---- the list of changed series
+
+listed_cases : (changed : List ℕ) (i j : ℕ) → is_listed (changed ++ i ∷ []) j ≡ true
+    → (is_listed changed j ≡ true) ⊎ (i ≡ j)
+listed_cases [] i j e = inr (either_case (i == j) false e (λ h. eqb-true i j h) (λ h. absurd (true≢false (sym h))))
+listed_cases (k ∷ changed) i j e = either_case (k == j) (is_listed (changed ++ i ∷ []) j) e
+    (λ h. inl (or_left (k == j) (is_listed changed j) h))
+    (λ h. ⊎_elim (λ was. inl (or_right (k == j) (is_listed changed j) was)) (λ last. inr last)
+    (listed_cases changed i j h))
+
+listed_still : (changed : List ℕ) (i j : ℕ) → is_listed changed j ≡ true → is_listed (changed ++ i ∷ []) j ≡ true
+listed_still [] i j e = absurd (true≢false (sym e))
+listed_still (k ∷ changed) i j e = either_case (k == j) (is_listed changed j) e
+    (λ h. or_left (k == j) (is_listed (changed ++ i ∷ []) j) h)
+    (λ h. or_right (k == j) (is_listed (changed ++ i ∷ []) j) (listed_still changed i j h))
+
+listed_last : (changed : List ℕ) (i : ℕ) → is_listed (changed ++ i ∷ []) i ≡ true
+listed_last [] i = or_left (i == i) false (eq-eqb i i refl)
+listed_last (k ∷ changed) i = or_right (k == i) (is_listed (changed ++ i ∷ []) i) (listed_last changed i)
+
+-- ---- operations that are noted
+
+module _ {A : Type 0} where
+  prefix_has : (xs ys : List A) (i : ℕ) (x : A) → IsPrefix xs ys → slice_get xs i ≡ Some x → slice_get ys i ≡ Some x
+  prefix_has [] ys i x p at = absurd (true≢false (sym (ap is_some at)))
+  prefix_has (z ∷ xs) [] i x p at = absurd (cc (p.1))
+  prefix_has (z ∷ xs) (y ∷ ys) zero x p at =
+      let same : z ≡ y = cc (p.1) in
+      ap (λ (w : A). Some w) (sym same) ∙ at
+  prefix_has (z ∷ xs) (y ∷ ys) (suc i) x p at = prefix_has xs ys i x (p.0, cc (p.1)) at
+
+pub operations_are_noted : OperationsAreNoted
+operations_are_noted keys more c d ops op i grow at here others all = go ops all
+  where
+    in_new : (j : ℕ) (time : ℤ) → is_in_spans (spans_of c j) time ≡ true → is_in_spans (spans_of d j) time ≡ true
+    in_new j time e = elim (j == i) as (λ b. (j == i) ≡ b → is_in_spans (spans_of d j) time ≡ true) [
+      | true ↦ λ t.
+          let same : j ≡ i = eqb-true j i t in
+          subst (λ k. is_in_spans (spans_of d k) time ≡ true) (sym same)
+          (ap (λ (ps : Spans). is_in_spans ps time) here
+          ∙ times_stay_in c.near (spans_of c i) (op_time op) time
+          (subst (λ k. is_in_spans (spans_of c k) time ≡ true) same e))
+      | false ↦ λ t. ap (λ (ps : Spans). is_in_spans ps time)
+          (others j (λ same. true≢false (sym (eq-eqb j i same) ∙ t))) ∙ e
+    ] refl
+
+    still : (o : Op) → IsNoted keys c o → IsNoted more d o
+    still o is = record {
+      number = is.number;
+      key = prefix_has keys more is.number (op_key o) grow is.key;
+      time = in_new is.number (op_time o) is.time;
+    }
+
+    new : IsNoted more d op
+    new = record {
+      number = i;
+      key = at;
+      time = ap (λ (ps : Spans). is_in_spans ps (op_time op)) here
+          ∙ noted_times_are_in c.near (spans_of c i) (op_time op);
+    }
+
+    go : (os : List Op) → AreNoted keys c os → AreNoted more d (os ++ op ∷ [])
+    go [] all = (new, tt)
+    go (o ∷ os) all = (still o all.0, go os all.1)
+
+-- ---- operations that are covered
+
+found : (test : ChangedSeries → Bool) (series : List ChangedSeries) (own : ChangedSeries) → Contains series own
+    → test own ≡ true → list_any test series ≡ true
+found test [] own among e = absurd (let within = among.1 in omega arith)
+found test (x ∷ series) own among e = ⊎_elim
+    (λ first. or_left (test x) (list_any test series)
+    (⊎_elim (λ none. absurd (let within = none.1 in omega arith))
+    (λ same. subst (λ (y : ChangedSeries). test y ≡ true) (sym same) e) (Contains-push_cases [] x own first)))
+    (λ later. or_right (test x) (list_any test series) (found test series own later e))
+    (Contains-append_cases (x ∷ []) series own among)
+
+pub noted_operations_are_covered : NotedOperationsAreCovered
+noted_operations_are_covered keys c series ops are all =
+    All-from_recursion (λ op. is_covered series op ≡ true) ops (go ops all)
+  where
+    one : (op : Op) → IsNoted keys c op → is_covered series op ≡ true
+    one op is =
+        let own : ChangedSeries = record { key = op_key op; spans = spans_of c is.number } in
+        found (λ x. is_op_in x op) series own
+        (are.whole is.number own (record {
+          key = is.key;
+          spans = refl;
+          changed = changed_there (spans_of c is.number) (op_time op) is.time;
+        }))
+        (and_from (pointwise nat_eq (op_key op) (op_key op)) (is_in_spans (spans_of c is.number) (op_time op))
+        ((bytes_decides (op_key op) (op_key op)).1 refl) is.time)
+
+    go : (os : List Op) → AreNoted keys c os → AllByRecursion (λ op. is_covered series op ≡ true) os
+    go [] all = tt
+    go (op ∷ os) all = (one op all.0, go os all.1)

@@ -1,0 +1,77 @@
+-- The laws of spans and of the changes within them, each the contract of a function of `src/laws.rt`.
+use Rattle.std.specs.Prelude.{◌≡◌, ◌≢◌, ◌++◌, ◌∷◌, [], true, ℕ, ℤ, IsTrue, List, All, fold, slice_get, Some, None, Option}
+use mathlib.Core.List.{IsPrefix}
+use Rattle.std.specs.FinMap.{entries, is_sorted, retain_keys}
+use Rattle.std.specs.List.{flat_map}
+use Rattle.rr_cells.specs.declared.op.Op.{Op}
+use Rattle.rr_cells.specs.CellNames.{CellName, cell_name_cmp}
+use Rattle.rr_cells.specs.CellBounds.{NamedCell}
+use Rattle.rr_cells.specs.Joins.{join_cells}
+use Rattle.rr_cells.specs.ReplicaState.{ReplicaState, IsReplicaState}
+use Rattle.rr_cells.specs.Operations.{op_key, step}
+use Rattle.rr_delta.specs.Summaries.{cells_after}
+use Rattle.rr_changes.specs.declared.changed_series.ChangedSeries.{ChangedSeries}
+use Rattle.rr_changes.specs.declared.span.Spans.{Spans}
+use Rattle.rr_changes.specs.Updates.{IsUpdate, op_time}
+use Rattle.rr_changes.specs.Spans.{is_in_spans, with_time}
+use Rattle.rr_changes.specs.Tracking.{ChangedState, AreChangedSeries, AreNoted, spans_of}
+use Rattle.rr_changes.specs.Changes.{AreBatches, changes_among, is_covered, is_within}
+
+-- ---- spans
+
+-- a time that is noted is in the spans
+abbrev pub NotedTimesAreIn : Type 0
+NotedTimesAreIn = (near : ℕ) (ps : Spans) (time : ℤ) → is_in_spans (with_time near ps time) time ≡ true
+
+-- and so are all that were
+abbrev pub TimesStayIn : Type 0
+TimesStayIn = (near : ℕ) (ps : Spans) (time other : ℤ) → is_in_spans ps other ≡ true
+    → is_in_spans (with_time near ps time) other ≡ true
+
+-- ---- operations that are noted
+
+-- with a change more noted, and keys that grow, the operations are noted still, and that one too
+abbrev pub OperationsAreNoted : Type 0
+OperationsAreNoted =
+    (keys more : List (List ℕ)) (c d : ChangedState) (ops : List Op) (op : Op) (i : ℕ)
+    → IsPrefix keys more → slice_get more i ≡ Some (op_key op)
+    → spans_of d i ≡ with_time c.near (spans_of c i) (op_time op)
+    → ((j : ℕ) → j ≢ i → spans_of d j ≡ spans_of c j)
+    → AreNoted keys c ops → AreNoted more d (ops ++ op ∷ [])
+
+-- operations that are noted are covered by the list of changed series
+abbrev pub NotedOperationsAreCovered : Type 0
+NotedOperationsAreCovered =
+    (keys : List (List ℕ)) (c : ChangedState) (series : List ChangedSeries) (ops : List Op)
+    → AreChangedSeries keys c series → AreNoted keys c ops → All (λ op. is_covered series op ≡ true) ops
+
+-- ---- cells within spans
+
+-- where all operations since a moment are covered, the cells within the spans are an update since then
+abbrev pub CoveredCellsAreAnUpdate : Type 0
+CoveredCellsAreAnUpdate =
+    (h : ReplicaState) (ops : List Op) (series : List ChangedSeries) → IsReplicaState h
+    → All (λ op. is_covered series op ≡ true) ops
+    → IsUpdate h.cells (fold step h ops).cells (retain_keys (fold step h ops).cells (is_within h.schema series))
+
+-- so whoever has the cells of then, and joins those within the spans one by one, has the cells of now
+abbrev pub CoveredCellsMakeTheCells : Type 0
+CoveredCellsMakeTheCells =
+    (h : ReplicaState) (ops : List Op) (series : List ChangedSeries) → IsReplicaState h
+    → All (λ op. is_covered series op ≡ true) ops
+    → join_cells h.schema h.cells (changes_among h.schema series (entries (fold step h ops).cells))
+    ≡ (fold step h ops).cells
+
+-- batches, each after the one before, are the whole list
+abbrev pub BatchesAreTheWhole : Type 0
+BatchesAreTheWhole =
+    (limit : ℕ) (after : Option CellName) (es : List NamedCell) (batches : List (List NamedCell))
+    → IsTrue (is_sorted cell_name_cmp es) → AreBatches limit after es batches → flat_map (λ b. b) batches ≡ cells_after after es
+
+-- so whoever has the cells of then, and joins the batches to the end, has the cells of now
+abbrev pub BatchesMakeTheCells : Type 0
+BatchesMakeTheCells =
+    (h : ReplicaState) (ops : List Op) (series : List ChangedSeries) (limit : ℕ) (batches : List (List NamedCell))
+    → IsReplicaState h → All (λ op. is_covered series op ≡ true) ops
+    → AreBatches limit None (changes_among h.schema series (entries (fold step h ops).cells)) batches
+    → join_cells h.schema h.cells (flat_map (λ b. b) batches) ≡ (fold step h ops).cells

@@ -1,0 +1,69 @@
+-- Which series changed, by their numbers, and the list of them by their keys.
+use Rattle.std.specs.Prelude.{◌≡◌, ℕ, ◌<◌, Bool, true, false, ◌==◌, List, map, length, slice_get, Some, unwrap_or, All, Contains}
+use Rattle.std.specs.List.{list_any, AllByRecursion}
+use Rattle.std.specs.List.Sorted.{IsStrictlySortedBy}
+use Rattle.rr_text.specs.Bytes.{bytes_cmp}
+use Rattle.rr_cells.specs.declared.op.Op.{Op}
+use Rattle.rr_cells.specs.Operations.{op_key}
+use Rattle.rr_changes.specs.declared.changed_series.ChangedSeries.{ChangedSeries}
+use Rattle.rr_changes.specs.declared.span.Spans.{Spans}
+use Rattle.rr_changes.specs.declared.span.TheConstants.{UNCHANGED}
+use Rattle.rr_changes.specs.Spans.{is_changed, is_in_spans}
+use Rattle.rr_changes.specs.Updates.{op_time}
+
+-- how near a time widens a span, the spans of each series by its number, and for how many more there is room to be listed
+pub record ChangedState : Type 0 where
+  pub near : ℕ
+  pub spans : List Spans
+  pub room : ℕ
+
+-- the spans of the series with a number
+abbrev pub spans_at : List Spans → ℕ → Spans
+spans_at spans i = unwrap_or (slice_get spans i) UNCHANGED
+
+abbrev pub spans_of : ChangedState → ℕ → Spans
+spans_of c i = spans_at c.spans i
+
+-- a change of the series with a number can be noted
+pub record HasRoom (c : ChangedState) (i : ℕ) : Type 0 where
+  pub place : i < length c.spans
+  pub listing : 0 < c.room
+
+-- ---- the list of changed series
+
+abbrev pub is_listed : List ℕ → ℕ → Bool
+is_listed changed i = list_any (λ j. j == i) changed
+
+-- exactly the series that have changed are listed
+pub record AreListed (spans : List Spans) (changed : List ℕ) : Type 0 where
+  pub others : (i : ℕ) → is_listed changed i ≡ false → spans_at spans i ≡ UNCHANGED
+  pub within : (i : ℕ) → is_listed changed i ≡ true → i < length spans
+  pub moved : (i : ℕ) → is_listed changed i ≡ true → is_changed (spans_at spans i) ≡ true
+
+-- ---- changed series by their keys
+
+-- the keys strictly ascend
+abbrev pub AreInOrder : List ChangedSeries → Type 0
+AreInOrder series = IsStrictlySortedBy bytes_cmp (map (λ c. c.key) series)
+
+-- the series with a number, where each has the key at its number
+pub record IsSeriesAt (keys : List (List ℕ)) (c : ChangedState) (i : ℕ) (series : ChangedSeries) : Type 0 where
+  pub key : slice_get keys i ≡ Some series.key
+  pub spans : spans_of c i ≡ series.spans
+  pub changed : is_changed series.spans ≡ true
+
+-- exactly the series that have changed and have a key
+pub record AreChangedSeries (keys : List (List ℕ)) (c : ChangedState) (series : List ChangedSeries) : Type 0 where
+  pub part : All (λ own. (i : ℕ) × IsSeriesAt keys c i own) series
+  pub whole : (i : ℕ) (own : ChangedSeries) → IsSeriesAt keys c i own → Contains series own
+
+-- ---- operations
+
+-- an operation is noted, by the number of its series
+pub record IsNoted (keys : List (List ℕ)) (c : ChangedState) (op : Op) : Type 0 where
+  pub number : ℕ
+  pub key : slice_get keys number ≡ Some (op_key op)
+  pub time : is_in_spans (spans_of c number) (op_time op) ≡ true
+
+abbrev pub AreNoted : List (List ℕ) → ChangedState → List Op → Type 0
+AreNoted keys c ops = AllByRecursion (IsNoted keys c) ops

@@ -1,0 +1,75 @@
+-- The laws of updates, each the contract of a function of `src/laws.rt`.
+use Rattle.std.specs.Prelude.{◌≡◌, ◌⊎◌, ◌<◌, List, ◌++◌, length, fold, Some, All, Contains}
+use Rattle.std.specs.FinMap.{get}
+use Rattle.rr_schema.specs.Schema.{Layout, IsLayout}
+use Rattle.rr_contrib.specs.declared.contribution.Contribution.{Contribution}
+use Rattle.rr_cells.specs.declared.op.Op.{Op}
+use Rattle.rr_cells.specs.CellNames.{CellName}
+use Rattle.rr_cells.specs.CellBounds.{NamedCell}
+use Rattle.rr_cells.specs.Samples.{Sample, name_of}
+use Rattle.rr_cells.specs.Cells.{Cells, IsTrimmed}
+use Rattle.rr_cells.specs.Puts.{put_sample}
+use Rattle.rr_cells.specs.Joins.{join, join_cell, join_cells}
+use Rattle.rr_cells.specs.Laws.{mark_in}
+use Rattle.rr_cells.specs.ReplicaState.{ReplicaState, IsReplicaState}
+use Rattle.rr_cells.specs.Operations.{step, outcome_of, AllAccepted}
+use Rattle.rr_changes.specs.Updates.{Holds, IsUpdate, Write, AreWrites, last_cells, written_cells, IsPlaceOf}
+
+-- ---- updates
+
+-- whatever a replica takes, it still holds all that it held
+abbrev pub OperationsOnlyAdd : Type 0
+OperationsOnlyAdd = (h : ReplicaState) (ops : List Op) → IsReplicaState h
+    → Holds h.schema (fold step h ops).cells h.cells
+
+-- an update, joined to what was before, makes the cells of now
+abbrev pub UpdateMakesTheCells : Type 0
+UpdateMakesTheCells =
+    (s : Layout) (before now update : Cells) → IsLayout s → Holds s now before → IsUpdate before now update
+    → join s before update ≡ now
+
+-- so for the cells that operations make, where a replica that has taken the first of them takes the others too
+abbrev pub UpdateMakesTheOutcome : Type 0
+UpdateMakesTheOutcome =
+    (h : ReplicaState) (first others : List Op) (update : Cells) → IsReplicaState h
+    → h.cells ≡ outcome_of h.schema first → AllAccepted h others
+    → IsUpdate (outcome_of h.schema first) (outcome_of h.schema (first ++ others)) update
+    → join h.schema (outcome_of h.schema first) update ≡ outcome_of h.schema (first ++ others)
+
+-- whoever holds the cells from before the first write, and joins all that was written, in any order, any number of
+-- times and with other cells between, holds the cells of the last write
+abbrev pub UpdatesBringAll : Type 0
+UpdatesBringAll =
+    (s : Layout) (m x : Cells) (writes : List Write) (es : List NamedCell) → IsLayout s → AreWrites s m writes
+    → Holds s x m → All (Contains es) (written_cells writes)
+    → Holds s (join_cells s x es) (last_cells m writes)
+
+-- and with no other cells has exactly these
+abbrev pub UpdatesMakeTheLast : Type 0
+UpdatesMakeTheLast =
+    (s : Layout) (m : Cells) (writes : List Write) (es : List NamedCell) → IsLayout s → IsTrimmed s m
+    → AreWrites s m writes → All (Contains es) (written_cells writes) → All (Contains (written_cells writes)) es
+    → join_cells s m es ≡ last_cells m writes
+
+-- ---- where operations change cells
+
+-- a cell that stands after a put stood there before, or is the one of its archive that the sample falls in
+abbrev pub PutChangesItsCells : Type 0
+PutChangesItsCells =
+    (s : Layout) (m : Cells) (x : Sample) (n : CellName) (c : Contribution) → IsLayout s → IsTrimmed s m
+    → get (put_sample s m x) n ≡ Some c
+    → (get m n ≡ Some c) ⊎ ((n.archive < length s.archives) × (n ≡ name_of s (mark_in x n.archive)))
+
+-- a cell that stands after a join stood there before, or is the one that was joined
+abbrev pub JoinChangesItsCell : Type 0
+JoinChangesItsCell =
+    (s : Layout) (m : Cells) (p : CellName) (d : Contribution) (n : CellName) (c : Contribution) → IsLayout s
+    → get (join_cell s m p d) n ≡ Some c
+    → (get m n ≡ Some c) ⊎ ((n ≡ p) × (c ≡ d))
+
+-- so a cell that stands after an operation stood there before, or is of the operation's key, in the slot of its time
+abbrev pub OperationChangesItsPlace : Type 0
+OperationChangesItsPlace =
+    (h : ReplicaState) (op : Op) (n : CellName) (c : Contribution) → IsReplicaState h
+    → get (step h op).cells n ≡ Some c
+    → (get h.cells n ≡ Some c) ⊎ IsPlaceOf h.schema op n

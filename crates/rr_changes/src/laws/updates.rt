@@ -1,0 +1,19 @@
+//! Updates, and where operations change cells.
+ghost use Rattle.rr_changes.specs.UpdateLaws.{OperationsOnlyAdd, UpdateMakesTheCells, UpdateMakesTheOutcome, UpdatesBringAll, UpdatesMakeTheLast, PutChangesItsCells, JoinChangesItsCell, OperationChangesItsPlace};
+
+/// Operations only add, so an update joined to what was before makes the cells of now. Updates that
+/// were written one after the other bring all, joined in any order and any number of times.
+pub fn updates_bring_all()
+    ensures add { OperationsOnlyAdd }
+    ensures cells { UpdateMakesTheCells }
+    ensures outcome { UpdateMakesTheOutcome }
+    ensures all { UpdatesBringAll }
+    ensures last { UpdatesMakeTheLast }
+{}
+
+/// An operation changes cells of its key alone, in the slots of its time.
+pub fn operations_change_their_places()
+    ensures puts { PutChangesItsCells }
+    ensures joins { JoinChangesItsCell }
+    ensures places { OperationChangesItsPlace }
+{}

@@ -1,0 +1,27 @@
+//! What changed in a replica since it was last written.
+//!
+//! An update is a part of a map of cells that has all that was added to it since an earlier moment:
+//! joined to what was there before, it makes what is there now, and updates may be joined in any
+//! order and any number of times (`specs/Updates.antt`). An operation changes cells of its key
+//! alone, in the slots of its time. So whoever notes, of each series, the times of its changes,
+//! finds an update among its cells at the cost of the series that changed, and never of all.
+//!
+//! [`ChangedSpans`] notes them: at most two [`Spans`] of times a series (`specs/Tracking.antt`). It
+//! lists the changed series in the order of their keys, and [`next_changes`] gives the cells that
+//! are in the slots of their spans, a number of them at a time (`specs/Changes.antt`). Once all are
+//! written, it is cleared. [`laws`] say what the cells of all batches come to.
+#![tactic(auto)]
+
+mod changed_series;
+mod changed_spans;
+pub mod laws;
+mod listing;
+mod slots;
+mod span;
+mod time;
+
+pub use changed_series::ChangedSeries;
+pub use changed_spans::ChangedSpans;
+pub use listing::next_changes;
+pub use span::{NEVER, Span, Spans, UNCHANGED};
+pub use time::op_time;
