@@ -1,5 +1,5 @@
 -- Cells in slots of an archive, along a walk.
-use Rattle.std.proofs.Common.{◌≡◌, ℕ, zero, suc, ℤ, pos, ◌-ℤ◌, Bool, true, false, cond, ◌&&◌, ◌||◌, T, List, [], ◌∷◌, ◌++◌, refl, sym, ap, ◌∙◌, arith, true≢false, Option, Some, None, Ordering, Less, Equal, Greater}
+use Rattle.std.proofs.Common.{◌≡◌, ℕ, zero, suc, ℤ, pos, ◌-ℤ◌, Bool, true, false, cond, ◌&&◌, ◌||◌, T, List, [], ◌∷◌, ◌++◌, ◌<◌, length, refl, sym, ap, ◌∙◌, arith, true≢false, Option, Some, None, Ordering, Less, Equal, Greater}
 use Rattle.std.specs.Prelude.{int_le, int_lt}
 use Rattle.std.specs.Int.{int_min, int_max}
 use Rattle.std.specs.Cmp.{nat_cmp_total, tied_itself}
@@ -9,6 +9,7 @@ use Rattle.std.specs.Ordering.{is_lt, is_gt, nat_cmp, int_cmp, ordering_then, or
 use Rattle.std.specs.FinMap.{is_sorted}
 use Rattle.std.proofs.lemmas.Bool.{false_from_ne_true}
 use Rattle.std.proofs.lemmas.Int.{ints}
+use Rattle.std.proofs.lemmas.List.{append-nil}
 use Rattle.rr_join.proofs.Booleans.{and_first, and_second}
 use Rattle.rr_cells.specs.CellNames.{cell_name_cmp, is_of}
 use Rattle.rr_cells.specs.CellBounds.{NamedCell}
@@ -18,8 +19,8 @@ use Rattle.rr_cells.proofs.Horizon.{is_of_says}
 use Rattle.rr_replica.proofs.NextCell.{is_past}
 use Rattle.rr_delta.specs.Summaries.{cells_after, cells_from}
 use Rattle.rr_delta.proofs.Walks.{before_both, walked_on}
-use Rattle.rr_changes.specs.Changes.{Slots, if_in_slots, is_before_slots, is_beyond, is_in_slots}
-use Rattle.rr_changes.proofs.FilterLemmas.{all_pass, none_at_all, none_pass}
+use Rattle.rr_changes.specs.Changes.{Slots, if_in_slots, is_before_slots, is_beyond, is_in_slots, up_to}
+use Rattle.rr_changes.proofs.FilterLemmas.{all_pass, none_at_all, none_pass, up_to_one}
 
 -- ---- before, in and after the slots
 
@@ -182,13 +183,17 @@ slots_end p e es beyond =
     (filter (is_in_slots p) (filter (is_past e.0) es))) (beyond_is_out p e beyond)
     ∙ none_pass (is_in_slots p) (is_past e.0) es (λ x past. none_beyond p e x beyond past)
 
--- a cell of the walk, and the others
-pub slots_step : (p : Slots) (e : NamedCell) (es : List NamedCell)
-    → if_in_slots p e ++ filter (is_in_slots p) (filter (is_past e.0) es) ≡ filter (is_in_slots p) (cells_from (Some e) es)
-slots_step p e es = elim (is_in_slots p e) as (λ b. cond b (e ∷ []) [] ++ filter (is_in_slots p) (filter (is_past e.0) es)
-    ≡ cond b (e ∷ filter (is_in_slots p) (filter (is_past e.0) es)) (filter (is_in_slots p) (filter (is_past e.0) es))) [
-      | true ↦ refl
-      | false ↦ refl
+-- a cell of the walk and the others, up to a limit that isn't reached
+pub slots_step_up_to : (p : Slots) (limit : ℕ) (so_far : List NamedCell) (e : NamedCell) (es : List NamedCell)
+    → length so_far < limit
+    → up_to limit (so_far ++ if_in_slots p e) (filter (is_in_slots p) (filter (is_past e.0) es))
+    ≡ up_to limit so_far (filter (is_in_slots p) (cells_from (Some e) es))
+slots_step_up_to p limit so_far e es room = elim (is_in_slots p e) as (λ b.
+    up_to limit (so_far ++ cond b (e ∷ []) []) (filter (is_in_slots p) (filter (is_past e.0) es))
+    ≡ up_to limit so_far (cond b (e ∷ filter (is_in_slots p) (filter (is_past e.0) es))
+    (filter (is_in_slots p) (filter (is_past e.0) es)))) [
+      | true ↦ up_to_one limit so_far e (filter (is_in_slots p) (filter (is_past e.0) es)) room
+      | false ↦ ap (λ l. up_to limit l (filter (is_in_slots p) (filter (is_past e.0) es))) (append-nil so_far)
     ]
 
 -- no cell is in slots of which the last is before the first

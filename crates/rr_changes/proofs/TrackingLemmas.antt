@@ -1,11 +1,13 @@
 -- Spans with a time more, and which series changed.
-use Rattle.std.proofs.Common.{◌≡◌, ◌≢◌, ℕ, zero, suc, ◌<◌, ◌≤◌, ℤ, Bool, true, false, cond, not, ◌&&◌, ◌||◌, List, [], ◌∷◌, ◌++◌, length, drop, replicate, set, slice_get, get_or, refl, sym, ap, ◌∙◌, subst, arith, true≢false, Option, Some, None, unwrap_or, is_some, ⊎_elim, ◌⊎◌, inl, inr}
+use Rattle.std.proofs.Common.{◌≡◌, ◌≢◌, ℕ, zero, suc, ◌+◌, ◌<◌, ◌≤◌, ℤ, Bool, true, false, cond, not, ◌&&◌, ◌||◌, List, [], ◌∷◌, ◌++◌, length, drop, replicate, set, slice_get, get_or, refl, sym, ap, ◌∙◌, subst, arith, true≢false, Option, Some, None, unwrap_or, is_some, ⊎_elim, ◌⊎◌, inl, inr, add-one}
 use Rattle.std.specs.Prelude.{int_le, int_lt, nat_eq, ◌==◌, All, Contains, if◌then◌else◌}
 use Rattle.std.specs.Cmp.Lexicographic.{pointwise, bytes_decides}
 use Rattle.std.specs.Int.{int_min, int_max}
 use Rattle.std.specs.List.{list_any, AllByRecursion}
 use Rattle.std.proofs.lemmas.Bool.{and_from, eqb-true, eq-eqb, or_left, or_right, false_from_ne_true}
 use Rattle.std.proofs.lemmas.Int.{ints}
+use Rattle.std.proofs.Math.ListN.{length-set}
+use Rattle.std.proofs.Math.Seq.{drop-cons}
 use Rattle.std.proofs.lemmas.List.Elements.{All-from_recursion, Contains-append_cases, Contains-push_cases}
 use mathlib.Core.List.{IsPrefix}
 use Rattle.rr_join.proofs.Booleans.{and_first, and_second, either_case}
@@ -74,6 +76,11 @@ with_time_changed near ps time = changed_there (with_time near ps time) time (no
 
 -- ---- spans by number
 
+pub spans_there : (spans : List Spans) (i : ℕ) (d : Spans) → i < length spans → get_or spans i d ≡ spans_at spans i
+spans_there [] i d lt = absurd (omega arith)
+spans_there (q ∷ spans) zero d lt = refl
+spans_there (q ∷ spans) (suc i) d lt = spans_there spans i d (omega arith)
+
 pub spans_set_here : (spans : List Spans) (i : ℕ) (p : Spans) → i < length spans → spans_at (set spans i p) i ≡ p
 spans_set_here [] i p lt = absurd (omega arith)
 spans_set_here (q ∷ spans) zero p lt = refl
@@ -113,6 +120,88 @@ listed_still (k ∷ changed) i j e = either_case (k == j) (is_listed changed j) 
 listed_last : (changed : List ℕ) (i : ℕ) → is_listed (changed ++ i ∷ []) i ≡ true
 listed_last [] i = or_left (i == i) false (eq-eqb i i refl)
 listed_last (k ∷ changed) i = or_right (k == i) (is_listed (changed ++ i ∷ []) i) (listed_last changed i)
+
+listed_here : (changed : List ℕ) (k d : ℕ) → k < length changed → is_listed changed (get_or changed k d) ≡ true
+listed_here [] k d lt = absurd (omega arith)
+listed_here (j ∷ changed) zero d lt = or_left (j == j) (is_listed changed j) (eq-eqb j j refl)
+listed_here (j ∷ changed) (suc k) d lt =
+    or_right (j == get_or changed k d) (is_listed changed (get_or changed k d)) (listed_here changed k d (omega arith))
+
+-- a change of a series, which is then listed
+pub listed_too : (spans : List Spans) (changed : List ℕ) (i : ℕ) (p : Spans) → AreListed spans changed → i < length spans
+    → is_changed p ≡ true
+    → AreListed (set spans i p) (if is_changed (spans_at spans i) then changed else changed ++ i ∷ [])
+listed_too spans changed i p are lt moves = by_case (is_changed (spans_at spans i)) refl
+  where
+    long : length (set spans i p) ≡ length spans
+    long = length-set spans i p
+
+    moved_too : (j : ℕ) → (is_listed changed j ≡ true) ⊎ (i ≡ j) → is_changed (spans_at (set spans i p) j) ≡ true
+    moved_too j either = elim (j == i) as (λ b. (j == i) ≡ b → is_changed (spans_at (set spans i p) j) ≡ true) [
+      | true ↦ λ t. subst (λ k. is_changed (spans_at (set spans i p) k) ≡ true) (sym (eqb-true j i t))
+          (ap is_changed (spans_set_here spans i p lt) ∙ moves)
+      | false ↦ λ t.
+          let other : j ≢ i = λ same. true≢false (sym (eq-eqb j i same) ∙ t) in
+          ap is_changed (spans_set_other spans i j p other)
+          ∙ ⊎_elim (λ was. are.moved j was) (λ same. absurd (other (sym same))) either
+    ] refl
+
+    by_case : (b : Bool) → is_changed (spans_at spans i) ≡ b
+        → AreListed (set spans i p) (if b then changed else changed ++ i ∷ [])
+    by_case true t = record {
+      others = λ j none.
+          let here : is_listed changed i ≡ true = is_there (is_listed changed i) refl in
+          let other : j ≢ i = λ same. true≢false (sym here ∙ subst (λ k. is_listed changed k ≡ false) same none) in
+          spans_set_other spans i j p other ∙ are.others j none;
+      within = λ j there. let few = are.within j there in omega (arith, long);
+      moved = λ j there. moved_too j (inl there);
+    }
+      where
+        is_there : (c : Bool) → is_listed changed i ≡ c → c ≡ true
+        is_there true e = refl
+        is_there false e = absurd (true≢false (sym t ∙ ap is_changed (are.others i e)))
+    by_case false t = record {
+      others = λ j none.
+          let other : j ≢ i = λ same. true≢false (sym (listed_last changed i)
+          ∙ subst (λ k. is_listed (changed ++ i ∷ []) k ≡ false) same none) in
+          spans_set_other spans i j p other ∙ are.others j (false_from_ne_true (is_listed changed j)
+          (λ there. true≢false (sym (listed_still changed i j there) ∙ none)));
+      within = λ j there. ⊎_elim (λ was. let few = are.within j was in omega (arith, long))
+          (λ same. omega (arith, long)) (listed_cases changed i j there);
+      moved = λ j there. moved_too j (listed_cases changed i j there);
+    }
+
+-- the series from a place of the list on are the one there, and the others
+pub left_at : (changed : List ℕ) (k d i : ℕ) → k < length changed
+    → is_listed (drop k changed) i ≡ ((get_or changed k d == i) || is_listed (drop (k + 1) changed) i)
+left_at changed k d i lt = ap (λ l. is_listed l i) (drop-cons changed k d lt) ∙ ap (λ n. (get_or changed k d == i)
+    || is_listed (drop n changed) i) (sym (add-one k))
+
+-- a series of the list that is forgotten
+pub forgotten : (spans : List Spans) (changed : List ℕ) (k d : ℕ) → k < length changed
+    → get_or changed k d < length spans
+    → ((i : ℕ) → is_listed (drop k changed) i ≡ false → spans_at spans i ≡ UNCHANGED)
+    → (i : ℕ) → is_listed (drop (k + 1) changed) i ≡ false
+    → spans_at (set spans (get_or changed k d) UNCHANGED) i ≡ UNCHANGED
+forgotten spans changed k d lt within left i none =
+    let x = get_or changed k d in
+    elim (i == x) as (λ b. (i == x) ≡ b → spans_at (set spans x UNCHANGED) i ≡ UNCHANGED) [
+      | true ↦ λ t. subst (λ j. spans_at (set spans x UNCHANGED) j ≡ UNCHANGED) (sym (eqb-true i x t))
+          (spans_set_here spans x UNCHANGED within)
+      | false ↦ λ t.
+          let other : i ≢ x = λ same. true≢false (sym (eq-eqb i x same) ∙ t) in
+          spans_set_other spans x i UNCHANGED other
+          ∙ left i (left_at changed k d i lt ∙ neither (x == i) (is_listed (drop (k + 1) changed) i)
+          (false_from_ne_true (x == i) (λ same. other (sym (eqb-true x i same)))) none)
+    ] refl
+  where
+    neither : (a b : Bool) → a ≡ false → b ≡ false → (a || b) ≡ false
+    neither true b h k = h
+    neither false b h k = k
+
+pub all_within : (spans : List Spans) (changed : List ℕ) (k d : ℕ) → AreListed spans changed → k < length changed
+    → get_or changed k d < length spans
+all_within spans changed k d are lt = are.within (get_or changed k d) (listed_here changed k d lt)
 
 -- ---- operations that are noted
 

@@ -136,6 +136,27 @@ fn list_series<A: Cells>(
     Ok(())
 }
 
+/// Adds the cells of series within their spans, in order and up to the limit. The keys of the series
+/// strictly ascend.
+fn list_all<A: Cells>(
+    query: &Query<'_, A>,
+    series: &[ChangedSeries],
+    cells: &mut Vec<Cell>,
+) -> Result<(), AllocError>
+    requires { AreInOrder series.now }
+    ensures { OnOk result (map owned_cell cells.new.items ≡ up_to query.now.limit
+        (map owned_cell cells.old.items) (changes_among query.now.replica.now.schema series.now
+        (cells_after (name_in query.now.after) (entries query.now.replica.now.cells)))) }
+{
+    for own in series {
+        if cells.len() >= query.limit {
+            return Ok(());
+        }
+        list_series(query, own, cells)?;
+    }
+    Ok(())
+}
+
 /// How many of these series, whose keys strictly ascend, are before that of a cell.
 fn count_before(series: &[ChangedSeries], after: Option<&Cell>) -> usize
     requires { AreInOrder series.now }
@@ -177,11 +198,6 @@ pub fn next_changes<A: Cells>(
         limit,
     };
     let mut cells = Vec::new(alloc);
-    for own in &series[count_before(series, after)..] {
-        if cells.len() >= limit {
-            return Ok(cells);
-        }
-        list_series(&query, own, &mut cells)?;
-    }
+    list_all(&query, &series[count_before(series, after)..], &mut cells)?;
     Ok(cells)
 }

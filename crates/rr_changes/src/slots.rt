@@ -24,13 +24,18 @@ impl<'a> Slots<'a> {
     /// The slots of the times of a span.
     pub(crate) fn of(schema: &Schema, key: &'a SeriesKey, archive: u8, span: &Span) -> Slots<'a>
         requires { archive < length schema.now.archives }
-        ensures { seen_slots result ≡ slots_of schema.now key.now archive span.now }
+        ensures slots { seen_slots result ≡ slots_of schema.now key.now archive span.now }
+        ensures first { IsSlot result.first }
     {
+        // The proof needs what the schema keeps to, which `archives` ensures.
+        let _archives = schema.archives();
+        let first = schema.slot(archive, span.first);
+        let last = schema.slot(archive, span.last);
         Slots {
             key,
             archive,
-            first: schema.slot(archive, span.first),
-            last: schema.slot(archive, span.last),
+            first,
+            last,
         }
     }
 
