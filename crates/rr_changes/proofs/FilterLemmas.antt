@@ -119,6 +119,12 @@ take_nothing : (n : ℕ) → take {A = NamedCell} n [] ≡ []
 take_nothing zero = refl
 take_nothing (suc n) = refl
 
+-- there is nothing before
+pub up_to_first : (limit : ℕ) (more : List NamedCell) → up_to limit [] more ≡ take limit more
+up_to_first limit more =
+    let all : limit - 0 ≡ limit = omega arith in
+    ap (λ n. take n more) all
+
 -- there is nothing more
 pub up_to_end : (limit : ℕ) (es : List NamedCell) → up_to limit es [] ≡ es
 up_to_end limit es = ap (λ l. es ++ l) (take_nothing (limit - length es)) ∙ append-nil es

@@ -1,5 +1,5 @@
 -- Cells within the spans of series: archive by archive, and series by series.
-use Rattle.std.proofs.Common.{◌≡◌, ℕ, zero, suc, ◌+◌, ◌<◌, ◌≤◌, ℤ, Bool, true, false, cond, ◌&&◌, ◌||◌, T, List, [], ◌∷◌, ◌++◌, map, length, take, drop, get_or, refl, sym, ap, ◌∙◌, subst, arith, true≢false, Option, Some, None, Ordering, Less, Equal, Greater}
+use Rattle.std.proofs.Common.{◌≡◌, ℕ, zero, suc, ◌+◌, ◌-◌, ◌<◌, ◌≤◌, ℤ, Bool, true, false, cond, ◌&&◌, ◌||◌, T, List, [], ◌∷◌, ◌++◌, map, length, take, drop, get_or, refl, sym, ap, ◌∙◌, subst, arith, true≢false, Option, Some, None, Ordering, Less, Equal, Greater}
 use Rattle.std.specs.Prelude.{int_le, int_lt, nat_eq, nat_lt, ◌==◌, All}
 use Rattle.std.specs.Int.{int_min, int_max}
 use Rattle.std.specs.Cmp.{tied_itself}
@@ -10,6 +10,7 @@ use Rattle.std.specs.Ordering.{is_lt, nat_cmp, int_cmp, ordering_reverse, orderi
 use Rattle.std.specs.FinMap.{is_sorted}
 use Rattle.std.proofs.lemmas.Bool.{and_right, eqb-true, false_from_ne_true}
 use Rattle.std.proofs.lemmas.Bool.Decides.{nat_tests}
+use Rattle.std.proofs.lemmas.List.{length-drop, take_all}
 use Rattle.std.proofs.lemmas.List.Elements.{All-from_recursion, recursion_from_All}
 use Rattle.rr_join.proofs.Booleans.{and_first, and_second, either_case}
 use Rattle.rr_text.specs.Bytes.{bytes_cmp}
@@ -252,6 +253,10 @@ all_before key n series all = All-from_recursion (λ own. bytes_cmp own.key key 
       less_from _ (all 0 own (omega arith) (omega arith)),
       go n series (λ k d low lt. all (suc k) d (omega arith) (omega arith)),
     )
+
+-- those from one on, as a slice of all
+pub sliced : (series : List ChangedSeries) (k : ℕ) → take (length series - k) (drop k series) ≡ drop k series
+sliced series k = take_all (length series - k) (drop k series) (omega (arith, length-drop k series))
 
 of_key : (s : Layout) (own : ChangedSeries) (e : NamedCell) → is_cell_in s own e.0 ≡ true → e.0.key ≡ own.key
 of_key s own e h = (bytes_decides e.0.key own.key).0
