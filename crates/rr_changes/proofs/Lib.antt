@@ -2,6 +2,7 @@ pub mod HoldingLemmas
 pub mod AddingLemmas
 pub mod CoveredLemmas
 pub mod TrackingLemmas
+pub mod KeyedLemmas
 pub mod FilterLemmas
 pub mod SlotLemmas
 pub mod WithinLemmas

@@ -103,7 +103,7 @@ spans_same (q ∷ spans) n (suc i) = spans_same spans n i
 
 -- ---- the list of changed series
 
-listed_cases : (changed : List ℕ) (i j : ℕ) → is_listed (changed ++ i ∷ []) j ≡ true
+pub listed_cases : (changed : List ℕ) (i j : ℕ) → is_listed (changed ++ i ∷ []) j ≡ true
     → (is_listed changed j ≡ true) ⊎ (i ≡ j)
 listed_cases [] i j e = inr (either_case (i == j) false e (λ h. eqb-true i j h) (λ h. absurd (true≢false (sym h))))
 listed_cases (k ∷ changed) i j e = either_case (k == j) (is_listed (changed ++ i ∷ []) j) e
@@ -121,7 +121,7 @@ listed_last : (changed : List ℕ) (i : ℕ) → is_listed (changed ++ i ∷ [])
 listed_last [] i = or_left (i == i) false (eq-eqb i i refl)
 listed_last (k ∷ changed) i = or_right (k == i) (is_listed (changed ++ i ∷ []) i) (listed_last changed i)
 
-listed_here : (changed : List ℕ) (k d : ℕ) → k < length changed → is_listed changed (get_or changed k d) ≡ true
+pub listed_here : (changed : List ℕ) (k d : ℕ) → k < length changed → is_listed changed (get_or changed k d) ≡ true
 listed_here [] k d lt = absurd (omega arith)
 listed_here (j ∷ changed) zero d lt = or_left (j == j) (is_listed changed j) (eq-eqb j j refl)
 listed_here (j ∷ changed) (suc k) d lt =
@@ -270,8 +270,8 @@ noted_operations_are_covered keys c series ops are all =
         found (λ x. is_op_in x op) series own
         (are.whole is.number own (record {
           key = is.key;
-          spans = refl;
-          changed = changed_there (spans_of c is.number) (op_time op) is.time;
+          here = refl;
+          moved = changed_there (spans_of c is.number) (op_time op) is.time;
         }))
         (and_from (pointwise nat_eq (op_key op) (op_key op)) (is_in_spans (spans_of c is.number) (op_time op))
         ((bytes_decides (op_key op) (op_key op)).1 refl) is.time)

@@ -43,7 +43,7 @@ OperationsAreNoted =
 abbrev pub NotedOperationsAreCovered : Type 0
 NotedOperationsAreCovered =
     (keys : List (List ℕ)) (c : ChangedState) (series : List ChangedSeries) (ops : List Op)
-    → AreChangedSeries keys c series → AreNoted keys c ops → All (λ op. is_covered series op ≡ true) ops
+    → AreChangedSeries keys c.spans series → AreNoted keys c ops → All (λ op. is_covered series op ≡ true) ops
 
 -- ---- cells within spans
 

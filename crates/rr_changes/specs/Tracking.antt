@@ -1,10 +1,13 @@
 -- Which series changed, by their numbers, and the list of them by their keys.
-use Rattle.std.specs.Prelude.{◌≡◌, ℕ, ◌<◌, Bool, true, false, ◌==◌, List, map, length, slice_get, Some, unwrap_or, All, Contains}
+use Rattle.std.specs.Prelude.{◌≡◌, ◌≢◌, ℕ, ◌<◌, Bool, true, false, ◌==◌, List, map, take, length, slice_get, Option, Some, unwrap_or, All, Contains}
+use Rattle.std.specs.BTreeMap.{is_at}
+use Rattle.std.specs.Map.{lookup, keys_of}
 use Rattle.std.specs.List.{list_any, AllByRecursion}
 use Rattle.std.specs.List.Sorted.{IsStrictlySortedBy}
 use Rattle.rr_text.specs.Bytes.{bytes_cmp}
 use Rattle.rr_cells.specs.declared.op.Op.{Op}
 use Rattle.rr_cells.specs.Operations.{op_key}
+use Rattle.rr_replica.specs.Numbered.{knows}
 use Rattle.rr_changes.specs.declared.changed_series.ChangedSeries.{ChangedSeries}
 use Rattle.rr_changes.specs.declared.span.Spans.{Spans}
 use Rattle.rr_changes.specs.declared.span.TheConstants.{UNCHANGED}
@@ -46,16 +49,39 @@ pub record AreListed (spans : List Spans) (changed : List ℕ) : Type 0 where
 abbrev pub AreInOrder : List ChangedSeries → Type 0
 AreInOrder series = IsStrictlySortedBy bytes_cmp (map (λ c. c.key) series)
 
--- the series with a number, where each has the key at its number
-pub record IsSeriesAt (keys : List (List ℕ)) (c : ChangedState) (i : ℕ) (series : ChangedSeries) : Type 0 where
+-- a series that has changed, by its number, at which its key and its spans are
+pub record IsSeriesAt (keys : List (List ℕ)) (spans : List Spans) (i : ℕ) (series : ChangedSeries) : Type 0 where
   pub key : slice_get keys i ≡ Some series.key
-  pub spans : spans_of c i ≡ series.spans
-  pub changed : is_changed series.spans ≡ true
+  pub here : spans_at spans i ≡ series.spans
+  pub moved : is_changed series.spans ≡ true
 
 -- exactly the series that have changed and have a key
-pub record AreChangedSeries (keys : List (List ℕ)) (c : ChangedState) (series : List ChangedSeries) : Type 0 where
-  pub part : All (λ own. (i : ℕ) × IsSeriesAt keys c i own) series
-  pub whole : (i : ℕ) (own : ChangedSeries) → IsSeriesAt keys c i own → Contains series own
+pub record AreChangedSeries (keys : List (List ℕ)) (spans : List Spans) (series : List ChangedSeries) : Type 0 where
+  pub part : All (λ own. (i : ℕ) × IsSeriesAt keys spans i own) series
+  pub whole : (i : ℕ) (own : ChangedSeries) → IsSeriesAt keys spans i own → Contains series own
+
+-- ---- in a tree by their keys
+
+-- the spans of a key, if it has some
+abbrev pub spans_by : List (List ℕ × Spans) → List ℕ → Option Spans
+spans_by entries key = lookup (is_at (bytes_cmp key)) entries
+
+-- with the spans of a number at its key, if it has one, which no number before it has
+pub record AddsSeries (keys : List (List ℕ)) (i : ℕ) (spans : Spans) (old new : List (List ℕ × Spans)) : Type 0 where
+  pub here : (key : List ℕ) → slice_get keys i ≡ Some key → spans_by new key ≡ Some spans
+  pub others : (key : List ℕ) → slice_get keys i ≢ Some key → spans_by new key ≡ spans_by old key
+  pub first : (key : List ℕ) → slice_get keys i ≡ Some key → knows (take i keys) key ≡ false
+  pub ordered : IsStrictlySortedBy bytes_cmp (keys_of old) → IsStrictlySortedBy bytes_cmp (keys_of new)
+
+abbrev pub series_of : List ℕ × Spans → ChangedSeries
+series_of e = record { key = e.0; spans = e.1 }
+
+-- exactly the series that have changed and have a key, in order
+pub record AreByKey (keys : List (List ℕ)) (spans : List Spans) (entries : List (List ℕ × Spans)) : Type 0 where
+  pub ordered : IsStrictlySortedBy bytes_cmp (keys_of entries)
+  pub part : (key : List ℕ) (ps : Spans) → spans_by entries key ≡ Some ps
+      → (i : ℕ) × IsSeriesAt keys spans i (series_of (key, ps))
+  pub whole : (i : ℕ) (own : ChangedSeries) → IsSeriesAt keys spans i own → spans_by entries own.key ≡ Some own.spans
 
 -- ---- operations
 

@@ -4,12 +4,12 @@ ghost use Rattle.rr_changes.specs.Spans.{is_changed, with_time};
 ghost use Rattle.rr_changes.specs.Tracking.{AreListed, spans_at};
 ghost use Rattle.rr_changes.specs.declared.span.TheConstants.{UNCHANGED};
 
+use crate::by_key::{list_by_key, spans_by_key};
 use crate::changed_series::ChangedSeries;
 use crate::span::{Spans, UNCHANGED};
 use rr_archive::Cells;
 use rr_replica::Replica;
 use std::alloc::{AllocError, Global};
-use std::collections::BTreeMap;
 use std::marker::Model;
 
 /// Which series of a replica changed since they were last written, and in which times: of each
@@ -112,23 +112,10 @@ impl ChangedSpans {
     ) -> Result<Vec<ChangedSeries>, AllocError>
         ensures ascending { IfOk result (λ series. AreInOrder series.items) }
         ensures each { IfOk result (λ series.
-            AreChangedSeries replica.now.keys self.now series.items) }
+            AreChangedSeries replica.now.keys self.now.spans series.items) }
     {
-        let mut by_key = BTreeMap::new(alloc);
-        for series in &self.changed {
-            if *series < replica.key_count() {
-                let key = replica.key_numbered(*series).copy()?;
-                by_key.insert(key, self.spans[*series])?;
-            }
-        }
-        let mut list = Vec::new(alloc);
-        for (key, spans) in &by_key {
-            list.push(ChangedSeries {
-                key: key.copy()?,
-                spans: *spans,
-            })?;
-        }
-        Ok(list)
+        let by_key = spans_by_key(alloc, replica, &self.changed, &self.spans)?;
+        list_by_key(alloc, &by_key)
     }
 
     /// Forgets all changes. The cost is linear in the series that have changed.

@@ -12,6 +12,7 @@
 //! written, it is cleared. [`laws`] say what the cells of all batches come to.
 #![tactic(auto)]
 
+mod by_key;
 mod changed_series;
 mod changed_spans;
 pub mod laws;
