@@ -33,8 +33,8 @@ use Rattle.rr_cells.specs.ReplicaState as state
 use Rattle.rr_cells.specs.ReplicaState.{ReplicaState, IsReplicaState}
 use Rattle.rr_cells.specs.Laws.{mark_in}
 use Rattle.rr_cells.specs.Operations.{accepts, with_op, step, sample_of, cell_step, outcome_of}
-use Rattle.rr_changes.specs.Updates.{Holds, IsPlaceOf}
-use Rattle.rr_changes.specs.UpdateLaws.{OperationsOnlyAdd, UpdateMakesTheOutcome, PutChangesItsCells, JoinChangesItsCell, OperationChangesItsPlace}
+use Rattle.rr_changes.specs.Updates.{GoesOn, Holds, IsPlaceOf}
+use Rattle.rr_changes.specs.UpdateLaws.{OperationsGoOn, OperationsOnlyAdd, ReplicasGoOn, UpdateMakesTheOutcome, PutChangesItsCells, JoinChangesItsCell, OperationChangesItsPlace}
 use Rattle.rr_cells.proofs.Orders.{cell_name_cmp_total, cell_name_cmp-IsAntisymmetric}
 use Rattle.rr_cells.proofs.Horizon.{live_horizon}
 use Rattle.rr_cells.proofs.JoinLaws.{join_trims, join_itself}
@@ -190,15 +190,8 @@ module _ (s : Layout) (is : IsLayout s) (x : Sample) where
 
 -- ---- operations only add
 
--- what a replica keeps to whose operations only add: its cells are live, and those of its origin are of numbers before
--- the next
-pub record GoesOn (h : ReplicaState) : Type 0 where
-  pub layout : IsLayout h.schema
-  pub live : IsTrimmed h.schema h.cells
-  pub own : (n : CellName) (c : Contribution) → get h.cells n ≡ Some c → n.origin ≡ h.origin → c.version < h.next
-
-pub goes_on : (h : ReplicaState) → IsReplicaState h → GoesOn h
-goes_on h holds = record { layout = holds.layout; live = holds.live; own = holds.own }
+pub replicas_go_on : ReplicasGoOn
+replicas_go_on h holds = record { layout = holds.layout; live = holds.live; own = holds.own }
 
 module _ (h : ReplicaState) (goes : GoesOn h) where
   -- the sample of a put that is taken
@@ -316,9 +309,13 @@ module _ (h : ReplicaState) (goes : GoesOn h) where
       ] refl
 
 pub operation_changes_its_place : OperationChangesItsPlace
-operation_changes_its_place h op n c holds = step_places h (goes_on h holds) op n c
+operation_changes_its_place h op n c goes = step_places h goes op n c
 
 -- ---- lists of operations
+
+pub operations_go_on : OperationsGoOn
+operations_go_on h [] goes = goes
+operations_go_on h (op ∷ ops) goes = operations_go_on (step h op) ops (step_goes_on h goes op)
 
 pub steps_add : (ops : List Op) (h : ReplicaState) → GoesOn h → Holds h.schema (fold step h ops).cells h.cells
 steps_add [] h goes = join_itself h.schema h.cells goes.layout goes.live
@@ -330,7 +327,7 @@ steps_add (op ∷ ops) h goes =
     (step_adds h goes op)
 
 pub operations_only_add : OperationsOnlyAdd
-operations_only_add h ops holds = steps_add ops h (goes_on h holds)
+operations_only_add h ops goes = steps_add ops h goes
 
 pub update_makes_the_outcome : UpdateMakesTheOutcome
 update_makes_the_outcome h first others update holds made taken is =

@@ -16,8 +16,9 @@ use Rattle.rr_replica.proofs.Counted.{take_all}
 use Rattle.rr_delta.specs.Summaries.{cells_after, cells_from}
 use Rattle.rr_delta.proofs.Walks.{sorted_filter, walked_on, walked_to}
 use Rattle.rr_changes.specs.Changes.{AreBatches, changes_among, is_within, last_name, next_of}
-use Rattle.rr_changes.specs.ChangeLaws.{BatchesAreTheWhole, BatchesMakeTheCells}
+use Rattle.rr_changes.specs.ChangeLaws.{BatchesAreTheWhole, BatchesMakeTheCells, NotedChangesMakeTheCells}
 use Rattle.rr_changes.proofs.CoveredLemmas.{covered_cells_make_the_cells}
+use Rattle.rr_changes.proofs.TrackingLemmas.{noted_operations_are_covered}
 
 -- after the first of the cells after a name are the others of them
 after_next : (after : Option CellName) (es : List NamedCell) (x : NamedCell) (xs : List NamedCell)
@@ -77,9 +78,14 @@ batches_are_the_whole limit after es (b ∷ batches) sorted are =
     (batches_are_the_whole limit (last_name after b) es batches sorted)
 
 pub batches_make_the_cells : BatchesMakeTheCells
-batches_make_the_cells h ops series limit batches holds covered are =
+batches_make_the_cells h ops series limit batches goes covered are =
     let m = (fold step h ops).cells in
     let es = changes_among h.schema series (entries m) in
     ap (join_cells h.schema h.cells) (batches_are_the_whole limit None es batches
     (true_from_T _ (sorted_filter (λ e. is_within h.schema series e.0) (entries m) (entries_sorted m))) are)
-    ∙ covered_cells_make_the_cells h ops series holds covered
+    ∙ covered_cells_make_the_cells h ops series goes covered
+
+pub noted_changes_make_the_cells : NotedChangesMakeTheCells
+noted_changes_make_the_cells h ops keys c series limit batches goes noted are batch =
+    batches_make_the_cells h ops series limit batches goes
+    (noted_operations_are_covered keys c series ops are noted) batch

@@ -26,11 +26,11 @@ use Rattle.rr_cells.proofs.Orders.{cell_name_cmp_total, cell_name_cmp-IsAntisymm
 use Rattle.rr_changes.specs.declared.changed_series.ChangedSeries.{ChangedSeries}
 use Rattle.rr_changes.specs.declared.span.Span.{Span}
 use Rattle.rr_changes.specs.declared.span.Spans.{Spans}
-use Rattle.rr_changes.specs.Updates.{IsUpdate, IsPlaceOf, op_time}
+use Rattle.rr_changes.specs.Updates.{GoesOn, IsUpdate, IsPlaceOf, op_time}
 use Rattle.rr_changes.specs.Spans.{is_in_span, is_in_spans}
 use Rattle.rr_changes.specs.Changes.{is_cell_in, is_covered, is_op_in, is_slot_in_span, is_slot_in_spans, is_within}
 use Rattle.rr_changes.specs.ChangeLaws.{CoveredCellsAreAnUpdate, CoveredCellsMakeTheCells}
-use Rattle.rr_changes.proofs.AddingLemmas.{GoesOn, goes_on, step_goes_on, step_places, operations_only_add}
+use Rattle.rr_changes.proofs.AddingLemmas.{step_goes_on, step_places, operations_only_add}
 use Rattle.rr_changes.proofs.HoldingLemmas.{update_makes_the_cells}
 
 -- ---- a later time is in no earlier slot
@@ -118,24 +118,24 @@ kept_is true o c e = e
 kept_is false o c e = absurd (true≢false (sym (ap is_some e)))
 
 pub covered_cells_are_an_update : CoveredCellsAreAnUpdate
-covered_cells_are_an_update h ops series holds covered =
+covered_cells_are_an_update h ops series goes covered =
     let m = (fold step h ops).cells in
     let test = is_within h.schema series in
     record {
       part = λ n c e. kept_is (test n) (get m n) c (sym (get_part m test n) ∙ e);
       whole = λ n c e. ⊎_elim (λ was. inl was)
           (λ at. inr (get_part m test n ∙ ap (λ b. cond b (get m n) None) at ∙ e))
-          (covered_cases ops h series (goes_on h holds)
+          (covered_cases ops h series goes
           (recursion_from_All (λ op. is_covered series op ≡ true) ops covered) n c e);
     }
 
 pub covered_cells_make_the_cells : CoveredCellsMakeTheCells
-covered_cells_make_the_cells h ops series holds covered =
+covered_cells_make_the_cells h ops series goes covered =
     let s = h.schema in
     let m = (fold step h ops).cells in
     let update : Cells = retain_keys m (is_within s series) in
     ap (join_cells s h.cells) (sym (entries-retain cell_name_cmp_total cell_name_cmp-IsAntisymmetric m
     (is_within s series)))
-    ∙ join_goes_by_cells s h.cells update holds.layout holds.live
-    ∙ update_makes_the_cells s h.cells m update holds.layout (operations_only_add h ops holds)
-    (covered_cells_are_an_update h ops series holds covered)
+    ∙ join_goes_by_cells s h.cells update goes.layout goes.live
+    ∙ update_makes_the_cells s h.cells m update goes.layout (operations_only_add h ops goes)
+    (covered_cells_are_an_update h ops series goes covered)

@@ -127,6 +127,15 @@ listed_here (j ∷ changed) zero d lt = or_left (j == j) (is_listed changed j) (
 listed_here (j ∷ changed) (suc k) d lt =
     or_right (j == get_or changed k d) (is_listed changed (get_or changed k d)) (listed_here changed k d (omega arith))
 
+-- where none is listed, none has changed, and the other way round
+pub none_listed : (spans : List Spans) (changed : List ℕ) → AreListed spans changed
+    → (changed ≡ [] → (i : ℕ) → spans_at spans i ≡ UNCHANGED) × (((i : ℕ) → spans_at spans i ≡ UNCHANGED) → changed ≡ [])
+none_listed spans [] are = ((λ none i. are.others i refl), (λ all. refl))
+none_listed spans (j ∷ changed) are = (
+  (λ none. absurd cc),
+  (λ all. absurd (true≢false (sym (are.moved j (listed_here (j ∷ changed) zero 0 (omega arith))) ∙ ap is_changed (all j)))),
+)
+
 -- a change of a series, which is then listed
 pub listed_too : (spans : List Spans) (changed : List ℕ) (i : ℕ) (p : Spans) → AreListed spans changed → i < length spans
     → is_changed p ≡ true

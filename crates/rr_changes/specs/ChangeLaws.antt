@@ -7,12 +7,12 @@ use Rattle.rr_cells.specs.declared.op.Op.{Op}
 use Rattle.rr_cells.specs.CellNames.{CellName, cell_name_cmp}
 use Rattle.rr_cells.specs.CellBounds.{NamedCell}
 use Rattle.rr_cells.specs.Joins.{join_cells}
-use Rattle.rr_cells.specs.ReplicaState.{ReplicaState, IsReplicaState}
+use Rattle.rr_cells.specs.ReplicaState.{ReplicaState}
 use Rattle.rr_cells.specs.Operations.{op_key, step}
 use Rattle.rr_delta.specs.Summaries.{cells_after}
 use Rattle.rr_changes.specs.declared.changed_series.ChangedSeries.{ChangedSeries}
 use Rattle.rr_changes.specs.declared.span.Spans.{Spans}
-use Rattle.rr_changes.specs.Updates.{IsUpdate, op_time}
+use Rattle.rr_changes.specs.Updates.{GoesOn, IsUpdate, op_time}
 use Rattle.rr_changes.specs.Spans.{is_in_spans, with_time}
 use Rattle.rr_changes.specs.Tracking.{ChangedState, AreChangedSeries, AreNoted, spans_of}
 use Rattle.rr_changes.specs.Changes.{AreBatches, changes_among, is_covered, is_within}
@@ -50,14 +50,14 @@ NotedOperationsAreCovered =
 -- where all operations since a moment are covered, the cells within the spans are an update since then
 abbrev pub CoveredCellsAreAnUpdate : Type 0
 CoveredCellsAreAnUpdate =
-    (h : ReplicaState) (ops : List Op) (series : List ChangedSeries) → IsReplicaState h
+    (h : ReplicaState) (ops : List Op) (series : List ChangedSeries) → GoesOn h
     → All (λ op. is_covered series op ≡ true) ops
     → IsUpdate h.cells (fold step h ops).cells (retain_keys (fold step h ops).cells (is_within h.schema series))
 
 -- so whoever has the cells of then, and joins those within the spans one by one, has the cells of now
 abbrev pub CoveredCellsMakeTheCells : Type 0
 CoveredCellsMakeTheCells =
-    (h : ReplicaState) (ops : List Op) (series : List ChangedSeries) → IsReplicaState h
+    (h : ReplicaState) (ops : List Op) (series : List ChangedSeries) → GoesOn h
     → All (λ op. is_covered series op ≡ true) ops
     → join_cells h.schema h.cells (changes_among h.schema series (entries (fold step h ops).cells))
     ≡ (fold step h ops).cells
@@ -72,6 +72,14 @@ BatchesAreTheWhole =
 abbrev pub BatchesMakeTheCells : Type 0
 BatchesMakeTheCells =
     (h : ReplicaState) (ops : List Op) (series : List ChangedSeries) (limit : ℕ) (batches : List (List NamedCell))
-    → IsReplicaState h → All (λ op. is_covered series op ≡ true) ops
+    → GoesOn h → All (λ op. is_covered series op ≡ true) ops
+    → AreBatches limit None (changes_among h.schema series (entries (fold step h ops).cells)) batches
+    → join_cells h.schema h.cells (flat_map (λ b. b) batches) ≡ (fold step h ops).cells
+
+-- so they do where each operation since then is noted, by the number of its series, and these series are asked for
+abbrev pub NotedChangesMakeTheCells : Type 0
+NotedChangesMakeTheCells =
+    (h : ReplicaState) (ops : List Op) (keys : List (List ℕ)) (c : ChangedState) (series : List ChangedSeries) (limit : ℕ)
+    (batches : List (List NamedCell)) → GoesOn h → AreNoted keys c ops → AreChangedSeries keys c.spans series
     → AreBatches limit None (changes_among h.schema series (entries (fold step h ops).cells)) batches
     → join_cells h.schema h.cells (flat_map (λ b. b) batches) ≡ (fold step h ops).cells

@@ -13,13 +13,21 @@ use Rattle.rr_cells.specs.Joins.{join, join_cell, join_cells}
 use Rattle.rr_cells.specs.Laws.{mark_in}
 use Rattle.rr_cells.specs.ReplicaState.{ReplicaState, IsReplicaState}
 use Rattle.rr_cells.specs.Operations.{step, outcome_of, AllAccepted}
-use Rattle.rr_changes.specs.Updates.{Holds, IsUpdate, Write, AreWrites, last_cells, written_cells, IsPlaceOf}
+use Rattle.rr_changes.specs.Updates.{GoesOn, Holds, IsUpdate, Write, AreWrites, last_cells, written_cells, IsPlaceOf}
 
 -- ---- updates
 
+-- each replica keeps to what operations need that only add
+abbrev pub ReplicasGoOn : Type 0
+ReplicasGoOn = (h : ReplicaState) → IsReplicaState h → GoesOn h
+
+-- and does so after any operations
+abbrev pub OperationsGoOn : Type 0
+OperationsGoOn = (h : ReplicaState) (ops : List Op) → GoesOn h → GoesOn (fold step h ops)
+
 -- whatever a replica takes, it still holds all that it held
 abbrev pub OperationsOnlyAdd : Type 0
-OperationsOnlyAdd = (h : ReplicaState) (ops : List Op) → IsReplicaState h
+OperationsOnlyAdd = (h : ReplicaState) (ops : List Op) → GoesOn h
     → Holds h.schema (fold step h ops).cells h.cells
 
 -- an update, joined to what was before, makes the cells of now
@@ -31,7 +39,7 @@ UpdateMakesTheCells =
 -- so for the cells that operations make, where a replica that has taken the first of them takes the others too
 abbrev pub UpdateMakesTheOutcome : Type 0
 UpdateMakesTheOutcome =
-    (h : ReplicaState) (first others : List Op) (update : Cells) → IsReplicaState h
+    (h : ReplicaState) (first others : List Op) (update : Cells) → GoesOn h
     → h.cells ≡ outcome_of h.schema first → AllAccepted h others
     → IsUpdate (outcome_of h.schema first) (outcome_of h.schema (first ++ others)) update
     → join h.schema (outcome_of h.schema first) update ≡ outcome_of h.schema (first ++ others)
@@ -70,6 +78,6 @@ JoinChangesItsCell =
 -- so a cell that stands after an operation stood there before, or is of the operation's key, in the slot of its time
 abbrev pub OperationChangesItsPlace : Type 0
 OperationChangesItsPlace =
-    (h : ReplicaState) (op : Op) (n : CellName) (c : Contribution) → IsReplicaState h
+    (h : ReplicaState) (op : Op) (n : CellName) (c : Contribution) → GoesOn h
     → get (step h op).cells n ≡ Some c
     → (get h.cells n ≡ Some c) ⊎ IsPlaceOf h.schema op n

@@ -1,15 +1,16 @@
 -- Updates: parts of a map of cells that have all that was added to it since an earlier moment.
-use Rattle.std.specs.Prelude.{◌≡◌, ◌⊎◌, ℤ, List, [], ◌∷◌, ◌++◌, Some}
+use Rattle.std.specs.Prelude.{◌≡◌, ◌⊎◌, ℤ, ◌<◌, List, [], ◌∷◌, ◌++◌, Some}
 use Rattle.std.specs.FinMap.{get, entries}
-use Rattle.rr_schema.specs.Schema.{Layout, slot_of}
+use Rattle.rr_schema.specs.Schema.{Layout, IsLayout, slot_of}
 use Rattle.rr_contrib.specs.declared.contribution.Contribution.{Contribution}
 use Rattle.rr_cells.specs.declared.op.Op.{Op}
 use Rattle.rr_cells.specs.declared.op.Op.TheVariants.{Put, Join}
 use Rattle.rr_cells.specs.CellNames.{CellName}
 use Rattle.rr_cells.specs.CellBounds.{NamedCell}
-use Rattle.rr_cells.specs.Cells.{Cells}
+use Rattle.rr_cells.specs.Cells.{Cells, IsTrimmed}
 use Rattle.rr_cells.specs.Joins.{join}
 use Rattle.rr_cells.specs.Operations.{op_key}
+use Rattle.rr_cells.specs.ReplicaState.{ReplicaState}
 
 -- x holds all that m holds: to join m to it changes nothing
 abbrev pub Holds : Layout → Cells → Cells → Type 0
@@ -43,7 +44,14 @@ abbrev pub written_cells : List Write → List NamedCell
 written_cells [] = []
 written_cells (w ∷ later) = entries w.update ++ written_cells later
 
--- ---- where an operation changes cells
+-- ---- operations
+
+-- what a replica keeps to whose operations only add: its cells are live, and those of its own origin are of numbers
+-- before the next
+pub record GoesOn (h : ReplicaState) : Type 0 where
+  pub layout : IsLayout h.schema
+  pub live : IsTrimmed h.schema h.cells
+  pub own : (n : CellName) (c : Contribution) → get h.cells n ≡ Some c → n.origin ≡ h.origin → c.version < h.next
 
 -- the time of its sample; of a cell that is joined, that of the last sample in it
 abbrev pub op_time : Op → ℤ

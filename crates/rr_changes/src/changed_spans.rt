@@ -1,5 +1,5 @@
 //! Which series changed since they were last written.
-ghost use Rattle.std.specs.Prelude.{◌≡◌, ◌<◌, ◌≤◌, ◌≢◌, ◌++◌, ◌∷◌, [], ℕ, IfOk, IsTrue, OnOk, if◌then◌else◌, length, vec_len, vec_capacity};
+ghost use Rattle.std.specs.Prelude.{◌≡◌, ◌↔◌, ◌<◌, ◌≤◌, ◌≢◌, ◌++◌, ◌∷◌, [], ℕ, IfOk, IsTrue, OnOk, if◌then◌else◌, length, vec_len, vec_capacity};
 ghost use Rattle.rr_changes.specs.Spans.{is_changed, with_time};
 ghost use Rattle.rr_changes.specs.Tracking.{AreListed, spans_at};
 ghost use Rattle.rr_changes.specs.declared.span.TheConstants.{UNCHANGED};
@@ -56,7 +56,7 @@ impl ChangedSpans {
 
     /// Whether no series has changed.
     pub fn is_empty(&self) -> bool
-        ensures { IsTrue result → (i : ℕ) → spans_of self.now i ≡ UNCHANGED }
+        ensures { IsTrue result ↔ ((i : ℕ) → spans_of self.now i ≡ UNCHANGED) }
     {
         self.changed.is_empty()
     }

@@ -1,5 +1,5 @@
 //! Spans, and the changes within them.
-ghost use Rattle.rr_changes.specs.ChangeLaws.{NotedTimesAreIn, TimesStayIn, OperationsAreNoted, NotedOperationsAreCovered, CoveredCellsAreAnUpdate, CoveredCellsMakeTheCells, BatchesAreTheWhole, BatchesMakeTheCells};
+ghost use Rattle.rr_changes.specs.ChangeLaws.{NotedTimesAreIn, TimesStayIn, OperationsAreNoted, NotedOperationsAreCovered, CoveredCellsAreAnUpdate, CoveredCellsMakeTheCells, BatchesAreTheWhole, BatchesMakeTheCells, NotedChangesMakeTheCells};
 
 /// A time that is noted is in the spans of its series, and stays there. So operations whose times
 /// are noted, by the numbers of their series, are covered by the list of changed series.
@@ -17,4 +17,5 @@ pub fn covered_cells_are_an_update()
     ensures makes { CoveredCellsMakeTheCells }
     ensures whole { BatchesAreTheWhole }
     ensures batches { BatchesMakeTheCells }
+    ensures noted { NotedChangesMakeTheCells }
 {}

@@ -1,5 +1,11 @@
 //! Updates, and where operations change cells.
-ghost use Rattle.rr_changes.specs.UpdateLaws.{OperationsOnlyAdd, UpdateMakesTheCells, UpdateMakesTheOutcome, UpdatesBringAll, UpdatesMakeTheLast, PutChangesItsCells, JoinChangesItsCell, OperationChangesItsPlace};
+ghost use Rattle.rr_changes.specs.UpdateLaws.{ReplicasGoOn, OperationsGoOn, OperationsOnlyAdd, UpdateMakesTheCells, UpdateMakesTheOutcome, UpdatesBringAll, UpdatesMakeTheLast, PutChangesItsCells, JoinChangesItsCell, OperationChangesItsPlace};
+
+/// What operations need of a replica so that they only add holds of each, and after each of them.
+pub fn replicas_go_on()
+    ensures replicas { ReplicasGoOn }
+    ensures operations { OperationsGoOn }
+{}
 
 /// Operations only add, so an update joined to what was before makes the cells of now. Updates that
 /// were written one after the other bring all, joined in any order and any number of times.
