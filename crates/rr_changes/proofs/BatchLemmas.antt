@@ -88,4 +88,4 @@ batches_make_the_cells h ops series limit batches goes covered are =
 pub noted_changes_make_the_cells : NotedChangesMakeTheCells
 noted_changes_make_the_cells h ops keys c series limit batches goes noted are batch =
     batches_make_the_cells h ops series limit batches goes
-    (noted_operations_are_covered keys c series ops are noted) batch
+    (noted_operations_are_covered keys c series h ops are noted) batch

@@ -1,14 +1,13 @@
 -- The cells in the slots of spans that cover all operations.
 use Rattle.std.proofs.Common.{◌≡◌, ℕ, zero, suc, ◌<◌, ◌≤◌, ◌*◌, ◌/◌, ℤ, pos, negsuc, Bool, true, false, cond, ◌&&◌, ◌||◌, List, [], ◌∷◌, fold, refl, sym, ap, ◌∙◌, subst, arith, true≢false, Option, Some, None, is_some, ⊎_elim, ◌⊎◌, inl, inr}
-use Rattle.std.specs.Prelude.{int_le, nat_eq, All}
+use Rattle.std.specs.Prelude.{int_le, nat_eq}
 use Rattle.std.specs.Int.{int_div_euclid}
 use Rattle.std.specs.Cmp.Lexicographic.{pointwise}
-use Rattle.std.specs.List.{AllByRecursion, list_any}
+use Rattle.std.specs.List.{list_any}
 use Rattle.std.specs.FinMap.{get, retain_keys, get-retain_keys}
 use Rattle.std.proofs.Math.Nat.{div-zero, div-mul-le_self}
 use Rattle.std.proofs.lemmas.Bool.{and_from, or_left, or_right}
 use Rattle.std.proofs.lemmas.Int.{ints}
-use Rattle.std.proofs.lemmas.List.Elements.{recursion_from_All}
 use Rattle.std.proofs.lemmas.Nat.{le-div}
 use Rattle.rr_schema.specs.Schema.{Layout, slot_of, span}
 use Rattle.rr_join.proofs.Booleans.{and_first, and_second, either_case}
@@ -28,7 +27,7 @@ use Rattle.rr_changes.specs.declared.span.Span.{Span}
 use Rattle.rr_changes.specs.declared.span.Spans.{Spans}
 use Rattle.rr_changes.specs.Updates.{GoesOn, IsUpdate, IsPlaceOf, op_time}
 use Rattle.rr_changes.specs.Spans.{is_in_span, is_in_spans}
-use Rattle.rr_changes.specs.Changes.{is_cell_in, is_covered, is_op_in, is_slot_in_span, is_slot_in_spans, is_within}
+use Rattle.rr_changes.specs.Changes.{AreCovered, is_cell_in, is_covered, is_op_in, is_slot_in_span, is_slot_in_spans, is_within}
 use Rattle.rr_changes.specs.ChangeLaws.{CoveredCellsAreAnUpdate, CoveredCellsMakeTheCells}
 use Rattle.rr_changes.proofs.AddingLemmas.{step_goes_on, step_places, operations_only_add}
 use Rattle.rr_changes.proofs.HoldingLemmas.{update_makes_the_cells}
@@ -83,7 +82,8 @@ cell_in s own op n place e =
     (ap (is_slot_in_spans s n.archive own.spans) place.slot
     ∙ slot_in_spans s n.archive own.spans (op_time op) (and_second key times e))
 
-any_too : (p q : ChangedSeries → Bool) (series : List ChangedSeries) → ((own : ChangedSeries) → p own ≡ true → q own ≡ true)
+any_too : (p q : ChangedSeries → Bool) (series : List ChangedSeries) → ((own : ChangedSeries) → p own ≡ true
+    → q own ≡ true)
     → list_any p series ≡ true → list_any q series ≡ true
 any_too p q [] each e = e
 any_too p q (own ∷ series) each e =
@@ -97,14 +97,16 @@ covered_place : (s : Layout) (series : List ChangedSeries) (op : Op) (n : CellNa
 covered_place s series op n covered place =
     any_too (λ own. is_op_in own op) (λ own. is_cell_in s own n) series (λ own e. cell_in s own op n place e) covered
 
-covered_cases : (ops : List Op) (h : ReplicaState) (series : List ChangedSeries) → GoesOn h
-    → AllByRecursion (λ op. is_covered series op ≡ true) ops
+covered_cases : (ops : List Op) (h : ReplicaState) (series : List ChangedSeries) → GoesOn h → AreCovered series h ops
     → (n : CellName) (c : Contribution) → get (fold step h ops).cells n ≡ Some c
     → (get h.cells n ≡ Some c) ⊎ (is_within h.schema series n ≡ true)
 covered_cases [] h series goes all n c e = inl e
 covered_cases (op ∷ ops) h series goes all n c e = ⊎_elim
-    (λ was. ⊎_elim (λ before. inl before) (λ place. inr (covered_place h.schema series op n all.0 place))
+    (λ was. ⊎_elim
+    (λ covered. ⊎_elim (λ before. inl before) (λ place. inr (covered_place h.schema series op n covered place))
     (step_places h goes op n c was))
+    (λ same. inl (ap (λ (m : Cells). get m n) (sym same) ∙ was))
+    all.0)
     (λ within. inr (subst (λ s. is_within s series n ≡ true) (step-schema h op) within))
     (covered_cases ops (step h op) series (step_goes_on h goes op) all.1 n c e)
 
@@ -125,8 +127,7 @@ covered_cells_are_an_update h ops series goes covered =
       part = λ n c e. kept_is (test n) (get m n) c (sym (get_part m test n) ∙ e);
       whole = λ n c e. ⊎_elim (λ was. inl was)
           (λ at. inr (get_part m test n ∙ ap (λ b. cond b (get m n) None) at ∙ e))
-          (covered_cases ops h series goes
-          (recursion_from_All (λ op. is_covered series op ≡ true) ops covered) n c e);
+          (covered_cases ops h series goes covered n c e);
     }
 
 pub covered_cells_make_the_cells : CoveredCellsMakeTheCells

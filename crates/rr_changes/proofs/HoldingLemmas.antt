@@ -46,8 +46,8 @@ all_parts P (x ∷ xs) ys all = let rest = all_parts P xs ys all.1 in ((all.0, r
 
 all_joined : (P : NamedCell → Type 0) (xs ys : List NamedCell) → AllByRecursion P xs → AllByRecursion P ys
     → AllByRecursion P (xs ++ ys)
-all_joined P [] ys front back = back
-all_joined P (x ∷ xs) ys front back = (front.0, all_joined P xs ys front.1 back)
+all_joined P [] ys first back = back
+all_joined P (x ∷ xs) ys first back = (first.0, all_joined P xs ys first.1 back)
 
 -- ---- an update
 
@@ -65,7 +65,8 @@ same_greater before (Some c) None part whole = ⊎_elim
     (whole c refl)
 same_greater before (Some c) (Some u) part whole = ap (greater contribution_cmp before) (sym (part u refl))
 
-update_joins : (s : Layout) (before m update : Cells) → IsUpdate before m update → join s before update ≡ join s before m
+update_joins : (s : Layout) (before m update : Cells) → IsUpdate before m update
+    → join s before update ≡ join s before m
 unfolding Maps.joined
 update_joins s before m update is = ap (trimmed (is_live s))
     (same_map cell_name_cmp_total cell_name_cmp-IsAntisymmetric
@@ -137,7 +138,8 @@ module _ (s : Layout) (is : IsLayout s) where
       → Holds s (join_cells s x es) (one e)
   each_held [] x e kept among = absurd (nowhere e among)
   each_held (f ∷ es) x e kept among = ⊎_elim
-      (λ first. still_held es (join_cell s x f.0 f.1) (one e) (subst (λ (g : NamedCell). Holds s (join s x (one f)) (one g))
+      (λ first. still_held es (join_cell s x f.0 f.1) (one e) (subst (λ (g : NamedCell). Holds s (join s x
+      (one f)) (one g))
       (only f e first) (holds_joined x (one f))))
       (λ later. each_held es (join_cell s x f.0 f.1) e (join_trims s x (one f) is) later)
       (Contains-append_cases (f ∷ []) es e among)

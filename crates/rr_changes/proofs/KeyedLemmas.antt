@@ -35,7 +35,8 @@ knows_before keys i n key lt at = knows_at (take n keys) i key (taken keys i n l
     taken (k ∷ keys) (suc i) (suc n) lt at = taken keys i n (omega arith) at
 
 -- two numbers of one key are the same, where no number before either has it
-same_number : (keys : List (List ℕ)) (i j : ℕ) (key : List ℕ) → slice_get keys i ≡ Some key → slice_get keys j ≡ Some key
+same_number : (keys : List (List ℕ)) (i j : ℕ) (key : List ℕ) → slice_get keys i ≡ Some key
+    → slice_get keys j ≡ Some key
     → knows (take i keys) key ≡ false → knows (take j keys) key ≡ false → i ≡ j
 same_number keys i j key at there none nothing = ⊎_elim
     (λ less. absurd (true≢false (sym (knows_before keys i j key less at) ∙ nothing)))
@@ -49,10 +50,11 @@ has_key keys i key = go (slice_get keys i)
   where
     go : (o : Option (List ℕ)) → (o ≡ Some key) ⊎ (o ≢ Some key)
     go None = inr (λ e. true≢false (sym (ap is_some e)))
-    go (Some k) = elim (pointwise nat_eq k key) as (λ b. pointwise nat_eq k key ≡ b → (Some k ≡ Some key) ⊎ (Some k ≢ Some key)) [
-      | true ↦ λ t. inl (ap (λ (x : List ℕ). Some x) ((bytes_decides k key).0 t))
-      | false ↦ λ t. inr (λ e. true≢false (sym ((bytes_decides k key).1 (ap (λ o. unwrap_or o k) e)) ∙ t))
-    ] refl
+    go (Some k) = elim (pointwise nat_eq k key) as (λ b. pointwise nat_eq k key ≡ b
+        → (Some k ≡ Some key) ⊎ (Some k ≢ Some key)) [
+          | true ↦ λ t. inl (ap (λ (x : List ℕ). Some x) ((bytes_decides k key).0 t))
+          | false ↦ λ t. inr (λ e. true≢false (sym ((bytes_decides k key).1 (ap (λ o. unwrap_or o k) e)) ∙ t))
+        ] refl
 
 key_is : (key k : List ℕ) → is_at (bytes_cmp key) k ≡ true → key ≡ k
 key_is key k t = exact_bytes key k (equal (bytes_cmp key k) t)
@@ -83,7 +85,8 @@ inserted keys i own ps old new at none updates ordered = record {
     same key there = ap (λ o. unwrap_or o own) (sym at ∙ there)
 
 -- the series of these numbers, by their keys
-pub record AreSoFar (keys : List (List ℕ)) (spans : List Spans) (numbers : List ℕ) (entries : List (List ℕ × Spans)) : Type 0 where
+pub record AreSoFar (keys : List (List ℕ)) (spans : List Spans) (numbers : List ℕ)
+    (entries : List (List ℕ × Spans)) : Type 0 where
   pub part : (key : List ℕ) (ps : Spans) → spans_by entries key ≡ Some ps
       → (i : ℕ) × IsSeriesAt keys spans i (series_of (key, ps))
   pub whole : (i : ℕ) (key : List ℕ) → is_listed numbers i ≡ true → slice_get keys i ≡ Some key
@@ -91,25 +94,21 @@ pub record AreSoFar (keys : List (List ℕ)) (spans : List Spans) (numbers : Lis
   pub first : (i : ℕ) (key : List ℕ) → is_listed numbers i ≡ true → slice_get keys i ≡ Some key
       → knows (take i keys) key ≡ false
 
-pub none_so_far : (keys : List (List ℕ)) (spans : List Spans) (entries : List (List ℕ × Spans)) → entries ≡ []
-    → AreSoFar keys spans [] entries
-none_so_far keys spans entries none = record {
-  part = λ key ps e. absurd (true≢false (sym (ap is_some (sym (ap (λ es. spans_by es key) none) ∙ e))));
-  whole = λ i key e at. absurd (true≢false (sym e));
-  first = λ i key e at. absurd (true≢false (sym e));
-}
-
-pub one_so_far : (keys : List (List ℕ)) (spans : List Spans) (numbers : List ℕ) (i : ℕ) (old new : List (List ℕ × Spans))
+pub one_so_far : (keys : List (List ℕ)) (spans : List Spans) (numbers : List ℕ) (i : ℕ)
+    (old new : List (List ℕ × Spans))
     → is_changed (spans_at spans i) ≡ true
     → AddsSeries keys i (spans_at spans i) old new → AreSoFar keys spans numbers old
     → AreSoFar keys spans (numbers ++ i ∷ []) new
 one_so_far keys spans numbers i old new moves adds were = record {
   part = λ key ps e. ⊎_elim
-      (λ at. (i, record {
-        key = at;
-        here = ap (λ o. unwrap_or o ps) (sym (adds.here key at) ∙ e);
-        moved = sym (ap is_changed (ap (λ o. unwrap_or o ps) (sym (adds.here key at) ∙ e))) ∙ moves;
-      }))
+      (λ at. (
+        i,
+        record {
+          key = at;
+          here = ap (λ o. unwrap_or o ps) (sym (adds.here key at) ∙ e);
+          moved = sym (ap is_changed (ap (λ o. unwrap_or o ps) (sym (adds.here key at) ∙ e))) ∙ moves;
+        },
+      ))
       (λ other. were.part key ps (sym (adds.others key other) ∙ e))
       (has_key keys i key);
   whole = λ j key e at. by_number j key at (listed_cases numbers i j e) (has_key keys i key);
@@ -150,10 +149,13 @@ found_in : (entries : List (List ℕ × Spans)) (key : List ℕ) (ps : Spans) �
     → Contains (map series_of entries) (series_of (key, ps))
 found_in [] key ps e = absurd (true≢false (sym (ap is_some e)))
 found_in (x ∷ entries) key ps e = elim (is_at (bytes_cmp key) x.0) as (λ b. is_at (bytes_cmp key) x.0 ≡ b
-    → cond b (Some x.1) (spans_by entries key) ≡ Some ps → Contains (series_of x ∷ map series_of entries) (series_of (key, ps))) [
+    → cond b (Some x.1) (spans_by entries key) ≡ Some ps
+    → Contains (series_of x ∷ map series_of entries) (series_of (key, ps))) [
       | true ↦ λ t f.
-          let same : series_of x ≡ series_of (key, ps) = λ i. series_of (sym (key_is key x.0 t) i, ap (λ o. unwrap_or o ps) f i) in
-          subst (Contains (series_of x ∷ map series_of entries)) same (first_of_all (series_of x) (map series_of entries))
+          let value : x.1 ≡ ps = ap (λ o. unwrap_or o ps) f in
+          let same : series_of x ≡ series_of (key, ps) = λ i. series_of (sym (key_is key x.0 t) i, value i) in
+          subst (Contains (series_of x ∷ map series_of entries)) same (first_of_all (series_of x)
+          (map series_of entries))
       | false ↦ λ t f. later (series_of x) (map series_of entries) (series_of (key, ps)) (found_in entries key ps f)
     ] refl e
   where

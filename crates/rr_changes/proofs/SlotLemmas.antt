@@ -49,7 +49,8 @@ same_archive : (p : Slots) (e : NamedCell) (slot : ℤ) (origin : ℕ) → IsIn 
 same_archive p e slot origin h =
     let rest = ordering_then (int_cmp slot e.0.slot) (nat_cmp origin e.0.origin) in
     (λ i. ordering_then (slice_cmp nat_cmp p.key (h.key i)) (ordering_then (nat_cmp p.archive (h.archive i)) rest))
-    ∙ ap (λ r. ordering_then r (ordering_then (nat_cmp p.archive p.archive) rest)) (tied_itself nat_list_cmp_total p.key)
+    ∙ ap (λ r. ordering_then r (ordering_then (nat_cmp p.archive p.archive) rest))
+    (tied_itself nat_list_cmp_total p.key)
     ∙ ap (λ r. ordering_then r rest) (tied_itself nat_cmp_total p.archive)
 
 smaller : (x y : ℤ) → int_lt x y ≡ true → int_cmp x y ≡ Less
@@ -78,7 +79,8 @@ before_is_past p from e before t =
     (ordering_then (nat_cmp from.0.archive (h.archive i))
     (ordering_then (int_cmp from.0.slot e.0.slot) (nat_cmp from.0.origin e.0.origin))))
     ∙ further (slice_cmp nat_cmp from.0.key p.key) (nat_cmp from.0.archive p.archive) (int_lt from.0.slot p.first)
-    (int_lt p.first from.0.slot) before (λ less. smaller from.0.slot e.0.slot (less_too from.0.slot p.first e.0.slot less h.first))
+    (int_lt p.first from.0.slot) before (λ less. smaller from.0.slot e.0.slot
+    (less_too from.0.slot p.first e.0.slot less h.first))
   where
     less_too : (x y z : ℤ) → int_lt x y ≡ true → int_le y z ≡ true → int_lt x z ≡ true
     less_too x y z a b = grind (arith, ints)
@@ -92,7 +94,8 @@ before_is_past p from e before t =
     further Greater b lt gt t less = t
     further Equal Less lt gt t less = t
     further Equal Greater lt gt t less = t
-    further Equal Equal true gt t less = ap (λ r. is_lt (ordering_then r (nat_cmp from.0.origin e.0.origin))) (less refl)
+    further Equal Equal true gt t less = ap (λ r. is_lt (ordering_then r (nat_cmp from.0.origin e.0.origin)))
+        (less refl)
     further Equal Equal false true t less = absurd (true≢false (sym t))
     further Equal Equal false false t less = absurd (true≢false (sym t))
 
@@ -199,7 +202,8 @@ slots_step_up_to p limit so_far e es room = elim (is_in_slots p e) as (λ b.
 -- no cell is in slots of which the last is before the first
 pub no_slots : (p : Slots) (es : List NamedCell) → int_lt p.last p.first ≡ true → filter (is_in_slots p) es ≡ []
 no_slots p es empty = none_at_all (is_in_slots p) es (λ e. false_from_ne_true (is_in_slots p e) (λ t.
-    let h = is_in_says p e t in true≢false (sym (empty_too p.first p.last e.0.slot h.first h.last) ∙ empty_is p.last p.first empty)))
+    let h = is_in_says p e t in true≢false (sym (empty_too p.first p.last e.0.slot h.first h.last)
+    ∙ empty_is p.last p.first empty)))
   where
     empty_too : (a b x : ℤ) → int_le a x ≡ true → int_le x b ≡ true → int_le a b ≡ true
     empty_too a b x h k = grind (arith, ints)
@@ -238,5 +242,6 @@ slots_both false a b c d x h l = refl
 slots_both true a b c d x h l = both a b c d x h l
   where
     both : (a b c d x : ℤ) → int_lt d a ≡ false → int_lt b c ≡ false
-        → (int_le (int_min a c) x && int_le x (int_max b d)) ≡ ((int_le a x && int_le x b) || (int_le c x && int_le x d))
+        → (int_le (int_min a c) x && int_le x (int_max b d)) ≡ ((int_le a x && int_le x b) ||
+        (int_le c x && int_le x d))
     both a b c d x h l = grind (arith, ints)

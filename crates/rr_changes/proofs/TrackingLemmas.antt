@@ -1,5 +1,5 @@
 -- Spans with a time more, and which series changed.
-use Rattle.std.proofs.Common.{◌≡◌, ◌≢◌, ℕ, zero, suc, ◌+◌, ◌<◌, ◌≤◌, ℤ, Bool, true, false, cond, not, ◌&&◌, ◌||◌, List, [], ◌∷◌, ◌++◌, length, drop, replicate, set, slice_get, get_or, refl, sym, ap, ◌∙◌, subst, arith, true≢false, Option, Some, None, unwrap_or, is_some, ⊎_elim, ◌⊎◌, inl, inr, add-one}
+use Rattle.std.proofs.Common.{◌≡◌, ◌≢◌, ℕ, zero, suc, ◌+◌, ◌<◌, ◌≤◌, ℤ, Bool, true, false, cond, not, ◌&&◌, ◌||◌, List, [], ◌∷◌, ◌++◌, fold, length, drop, replicate, set, slice_get, get_or, refl, sym, ap, ◌∙◌, subst, arith, true≢false, Option, Some, None, unwrap_or, is_some, ⊎_elim, ◌⊎◌, inl, inr, add-one}
 use Rattle.std.specs.Prelude.{int_le, int_lt, nat_eq, ◌==◌, All, Contains, if◌then◌else◌}
 use Rattle.std.specs.Cmp.Lexicographic.{pointwise, bytes_decides}
 use Rattle.std.specs.Int.{int_min, int_max}
@@ -12,7 +12,8 @@ use Rattle.std.proofs.lemmas.List.Elements.{All-from_recursion, Contains-append_
 use mathlib.Core.List.{IsPrefix}
 use Rattle.rr_join.proofs.Booleans.{and_first, and_second, either_case}
 use Rattle.rr_cells.specs.declared.op.Op.{Op}
-use Rattle.rr_cells.specs.Operations.{op_key}
+use Rattle.rr_cells.specs.Operations.{op_key, step}
+use Rattle.rr_cells.specs.ReplicaState.{ReplicaState}
 use Rattle.rr_changes.specs.declared.changed_series.ChangedSeries.{ChangedSeries}
 use Rattle.rr_changes.specs.declared.span.Span.{Span}
 use Rattle.rr_changes.specs.declared.span.Spans.{Spans}
@@ -20,8 +21,8 @@ use Rattle.rr_changes.specs.declared.span.TheConstants.{UNCHANGED}
 use Rattle.rr_changes.specs.Updates.{op_time}
 use Rattle.rr_changes.specs.Spans.{is_changed, is_empty, is_in_span, is_in_spans, is_nearer_recent, widened, with_time}
 use Rattle.rr_changes.specs.Tracking.{AreChangedSeries, AreListed, AreNoted, ChangedState, IsNoted, IsSeriesAt, is_listed, spans_at, spans_of}
-use Rattle.rr_changes.specs.Changes.{is_covered, is_op_in}
-use Rattle.rr_changes.specs.ChangeLaws.{NotedOperationsAreCovered, NotedTimesAreIn, OperationsAreNoted, TimesStayIn}
+use Rattle.rr_changes.specs.Changes.{AreCovered, is_covered, is_op_in}
+use Rattle.rr_changes.specs.ChangeLaws.{NotedOperationsAreCovered, NotedTimesAreIn, OneMoreIsNoted, TimesStayIn, UnchangingNeedsNoNote}
 
 -- ---- a time more
 
@@ -34,7 +35,8 @@ widened_has p time = here p.first p.last time
 widened_still : (p : Span) (time other : ℤ) → is_in_span p other ≡ true → is_in_span (widened p time) other ≡ true
 widened_still p time other e = wider p.first p.last time other e
   where
-    wider : (a b t u : ℤ) → (int_le a u && int_le u b) ≡ true → (int_le (int_min a t) u && int_le u (int_max b t)) ≡ true
+    wider : (a b t u : ℤ) → (int_le a u && int_le u b) ≡ true
+        → (int_le (int_min a t) u && int_le u (int_max b t)) ≡ true
     wider a b t u e = grind (arith, ints)
 
 pub noted_times_are_in : NotedTimesAreIn
@@ -93,14 +95,6 @@ spans_set_other (q ∷ spans) zero (suc j) p ne = refl
 spans_set_other (q ∷ spans) (suc i) zero p ne = refl
 spans_set_other (q ∷ spans) (suc i) (suc j) p ne = spans_set_other spans i j p (λ e. ne (ap suc e))
 
--- places more, of series that haven't changed
-pub spans_same : (spans : List Spans) (n i : ℕ) → spans_at (spans ++ replicate n UNCHANGED) i ≡ spans_at spans i
-spans_same [] zero i = refl
-spans_same [] (suc n) zero = refl
-spans_same [] (suc n) (suc i) = spans_same [] n i
-spans_same (q ∷ spans) n zero = refl
-spans_same (q ∷ spans) n (suc i) = spans_same spans n i
-
 -- ---- the list of changed series
 
 pub listed_cases : (changed : List ℕ) (i j : ℕ) → is_listed (changed ++ i ∷ []) j ≡ true
@@ -129,15 +123,18 @@ listed_here (j ∷ changed) (suc k) d lt =
 
 -- where none is listed, none has changed, and the other way round
 pub none_listed : (spans : List Spans) (changed : List ℕ) → AreListed spans changed
-    → (changed ≡ [] → (i : ℕ) → spans_at spans i ≡ UNCHANGED) × (((i : ℕ) → spans_at spans i ≡ UNCHANGED) → changed ≡ [])
+    → (changed ≡ [] → (i : ℕ) → spans_at spans i ≡ UNCHANGED) × (((i : ℕ) → spans_at spans i ≡ UNCHANGED)
+    → changed ≡ [])
 none_listed spans [] are = ((λ none i. are.others i refl), (λ all. refl))
 none_listed spans (j ∷ changed) are = (
   (λ none. absurd cc),
-  (λ all. absurd (true≢false (sym (are.moved j (listed_here (j ∷ changed) zero 0 (omega arith))) ∙ ap is_changed (all j)))),
+  (λ all. absurd (true≢false (sym (are.moved j (listed_here (j ∷ changed) zero 0 (omega arith)))
+      ∙ ap is_changed (all j)))),
 )
 
 -- a change of a series, which is then listed
-pub listed_too : (spans : List Spans) (changed : List ℕ) (i : ℕ) (p : Spans) → AreListed spans changed → i < length spans
+pub listed_too : (spans : List Spans) (changed : List ℕ) (i : ℕ) (p : Spans) → AreListed spans changed
+    → i < length spans
     → is_changed p ≡ true
     → AreListed (set spans i p) (if is_changed (spans_at spans i) then changed else changed ++ i ∷ [])
 listed_too spans changed i p are lt moves = by_case (is_changed (spans_at spans i)) refl
@@ -223,11 +220,31 @@ module _ {A : Type 0} where
       ap (λ (w : A). Some w) (sym same) ∙ at
   prefix_has (z ∷ xs) (y ∷ ys) (suc i) x p at = prefix_has xs ys i x (p.0, cc (p.1)) at
 
-pub operations_are_noted : OperationsAreNoted
-operations_are_noted keys more c d ops op i grow at here others all = go ops all
+-- with keys that grow and spans that widen they are noted still, and one more is or changes nothing
+more_noted : (keys more : List (List ℕ)) (c d : ChangedState) (op : Op) → IsPrefix keys more
+    → ((j : ℕ) (time : ℤ) → is_in_spans (spans_of c j) time ≡ true → is_in_spans (spans_of d j) time ≡ true)
+    → (ops : List Op) (h : ReplicaState)
+    → IsNoted more d op ⊎ ((step (fold step h ops) op).cells ≡ (fold step h ops).cells)
+    → AreNoted keys c h ops → AreNoted more d h (ops ++ op ∷ [])
+more_noted keys more c d op grow wider [] h last all = (last, tt)
+more_noted keys more c d op grow wider (o ∷ ops) h last all = (
+  ⊎_elim (λ is. inl (still is)) (λ same. inr same) all.0,
+  more_noted keys more c d op grow wider ops (step h o) last all.1,
+)
   where
-    in_new : (j : ℕ) (time : ℤ) → is_in_spans (spans_of c j) time ≡ true → is_in_spans (spans_of d j) time ≡ true
-    in_new j time e = elim (j == i) as (λ b. (j == i) ≡ b → is_in_spans (spans_of d j) time ≡ true) [
+    still : IsNoted keys c o → IsNoted more d o
+    still is = record {
+      number = is.number;
+      key = prefix_has keys more is.number (op_key o) grow is.key;
+      time = wider is.number (op_time o) is.time;
+    }
+
+pub one_more_is_noted : OneMoreIsNoted
+one_more_is_noted keys more c d h ops op i grow at here others all =
+    more_noted keys more c d op grow wider ops h (inl new) all
+  where
+    wider : (j : ℕ) (time : ℤ) → is_in_spans (spans_of c j) time ≡ true → is_in_spans (spans_of d j) time ≡ true
+    wider j time e = elim (j == i) as (λ b. (j == i) ≡ b → is_in_spans (spans_of d j) time ≡ true) [
       | true ↦ λ t.
           let same : j ≡ i = eqb-true j i t in
           subst (λ k. is_in_spans (spans_of d k) time ≡ true) (sym same)
@@ -238,13 +255,6 @@ operations_are_noted keys more c d ops op i grow at here others all = go ops all
           (others j (λ same. true≢false (sym (eq-eqb j i same) ∙ t))) ∙ e
     ] refl
 
-    still : (o : Op) → IsNoted keys c o → IsNoted more d o
-    still o is = record {
-      number = is.number;
-      key = prefix_has keys more is.number (op_key o) grow is.key;
-      time = in_new is.number (op_time o) is.time;
-    }
-
     new : IsNoted more d op
     new = record {
       number = i;
@@ -253,9 +263,10 @@ operations_are_noted keys more c d ops op i grow at here others all = go ops all
           ∙ noted_times_are_in c.near (spans_of c i) (op_time op);
     }
 
-    go : (os : List Op) → AreNoted keys c os → AreNoted more d (os ++ op ∷ [])
-    go [] all = (new, tt)
-    go (o ∷ os) all = (still o all.0, go os all.1)
+pub unchanging_needs_no_note : UnchangingNeedsNoNote
+unchanging_needs_no_note keys more c d h ops op grow same none all =
+    more_noted keys more c d op grow (λ j time e. ap (λ (ps : Spans). is_in_spans ps time) (same j) ∙ e) ops h
+    (inr none) all
 
 -- ---- operations that are covered
 
@@ -270,8 +281,7 @@ found test (x ∷ series) own among e = ⊎_elim
     (Contains-append_cases (x ∷ []) series own among)
 
 pub noted_operations_are_covered : NotedOperationsAreCovered
-noted_operations_are_covered keys c series ops are all =
-    All-from_recursion (λ op. is_covered series op ≡ true) ops (go ops all)
+noted_operations_are_covered keys c series h ops are all = go ops h all
   where
     one : (op : Op) → IsNoted keys c op → is_covered series op ≡ true
     one op is =
@@ -285,6 +295,6 @@ noted_operations_are_covered keys c series ops are all =
         (and_from (pointwise nat_eq (op_key op) (op_key op)) (is_in_spans (spans_of c is.number) (op_time op))
         ((bytes_decides (op_key op) (op_key op)).1 refl) is.time)
 
-    go : (os : List Op) → AreNoted keys c os → AllByRecursion (λ op. is_covered series op ≡ true) os
-    go [] all = tt
-    go (op ∷ os) all = (one op all.0, go os all.1)
+    go : (os : List Op) (h : ReplicaState) → AreNoted keys c h os → AreCovered series h os
+    go [] h all = tt
+    go (op ∷ os) h all = (⊎_elim (λ is. inl (one op is)) (λ same. inr same) all.0, go os (step h op) all.1)

@@ -165,8 +165,10 @@ pub archive_more : (s : Layout) (own : ChangedSeries) (i : ℕ) (es : List Named
     ≡ filter (is_before_archive s own (i + 1)) es
 archive_more s own i es sorted =
     one_after_other (is_before_archive s own i) (is_cell_in_archive s own i) es sorted apart
-    ∙ same_filter (λ e. is_before_archive s own i e || is_cell_in_archive s own i e) (is_before_archive s own (i + 1)) es
-    (everywhere (λ e. (is_before_archive s own i e || is_cell_in_archive s own i e) ≡ is_before_archive s own (i + 1) e) es
+    ∙ same_filter (λ e. is_before_archive s own i e || is_cell_in_archive s own i e) (is_before_archive s own
+    (i + 1)) es
+    (everywhere (λ e. (is_before_archive s own i e || is_cell_in_archive s own i e) ≡ is_before_archive s own
+    (i + 1) e) es
     (one_archive_more s own i))
   where
     smaller : (m n : ℕ) → nat_lt m n ≡ true → nat_cmp m n ≡ Less
@@ -181,15 +183,18 @@ archive_more s own i es sorted =
         (and_first (is_cell_in s own x.0) (nat_lt x.0.archive i) p)) in
         let rest = ordering_then (int_cmp x.0.slot y.0.slot) (nat_cmp x.0.origin y.0.origin) in
         ap is_lt (
-        (λ j. ordering_then (slice_cmp nat_cmp (key j) (h.key j)) (ordering_then (nat_cmp x.0.archive (h.archive j)) rest))
-        ∙ ap (λ r. ordering_then r (ordering_then (nat_cmp x.0.archive i) rest)) (tied_itself nat_list_cmp_total own.key)
+        (λ j. ordering_then (slice_cmp nat_cmp (key j) (h.key j)) (ordering_then (nat_cmp x.0.archive
+        (h.archive j)) rest))
+        ∙ ap (λ r. ordering_then r (ordering_then (nat_cmp x.0.archive i) rest))
+        (tied_itself nat_list_cmp_total own.key)
         ∙ ap (λ r. ordering_then r rest) (smaller x.0.archive i
         (and_second (is_cell_in s own x.0) (nat_lt x.0.archive i) p)))
 
 -- no cell of the schema is in a further archive
 pub all_archives : (s : Layout) (own : ChangedSeries) (i : ℕ) (es : List NamedCell) → length s.archives ≤ i
     → AllByRecursion (IsCellOf s) es → filter (is_before_archive s own i) es ≡ filter (λ e. is_cell_in s own e.0) es
-all_archives s own i es le cells = same_filter (is_before_archive s own i) (λ e. is_cell_in s own e.0) es (each es cells)
+all_archives s own i es le cells = same_filter (is_before_archive s own i) (λ e. is_cell_in s own e.0) es
+    (each es cells)
   where
     below : (m n l : ℕ) → m < l → l ≤ n → nat_lt m n ≡ true
     below m n l lt le = grind (arith, nat_tests)

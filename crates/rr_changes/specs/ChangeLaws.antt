@@ -1,5 +1,5 @@
 -- The laws of spans and of the changes within them, each the contract of a function of `src/laws.rt`.
-use Rattle.std.specs.Prelude.{◌≡◌, ◌≢◌, ◌++◌, ◌∷◌, [], true, ℕ, ℤ, IsTrue, List, All, fold, slice_get, Some, None, Option}
+use Rattle.std.specs.Prelude.{◌≡◌, ◌≢◌, ◌++◌, ◌∷◌, [], true, ℕ, ℤ, IsTrue, List, fold, slice_get, Some, None, Option}
 use mathlib.Core.List.{IsPrefix}
 use Rattle.std.specs.FinMap.{entries, is_sorted, retain_keys}
 use Rattle.std.specs.List.{flat_map}
@@ -15,7 +15,7 @@ use Rattle.rr_changes.specs.declared.span.Spans.{Spans}
 use Rattle.rr_changes.specs.Updates.{GoesOn, IsUpdate, op_time}
 use Rattle.rr_changes.specs.Spans.{is_in_spans, with_time}
 use Rattle.rr_changes.specs.Tracking.{ChangedState, AreChangedSeries, AreNoted, spans_of}
-use Rattle.rr_changes.specs.Changes.{AreBatches, changes_among, is_covered, is_within}
+use Rattle.rr_changes.specs.Changes.{AreBatches, AreCovered, changes_among, is_within}
 
 -- ---- spans
 
@@ -30,20 +30,27 @@ TimesStayIn = (near : ℕ) (ps : Spans) (time other : ℤ) → is_in_spans ps ot
 
 -- ---- operations that are noted
 
--- with a change more noted, and keys that grow, the operations are noted still, and that one too
-abbrev pub OperationsAreNoted : Type 0
-OperationsAreNoted =
-    (keys more : List (List ℕ)) (c d : ChangedState) (ops : List Op) (op : Op) (i : ℕ)
+-- with one more, which is noted, and keys that grow, they are noted still
+abbrev pub OneMoreIsNoted : Type 0
+OneMoreIsNoted =
+    (keys more : List (List ℕ)) (c d : ChangedState) (h : ReplicaState) (ops : List Op) (op : Op) (i : ℕ)
     → IsPrefix keys more → slice_get more i ≡ Some (op_key op)
     → spans_of d i ≡ with_time c.near (spans_of c i) (op_time op)
     → ((j : ℕ) → j ≢ i → spans_of d j ≡ spans_of c j)
-    → AreNoted keys c ops → AreNoted more d (ops ++ op ∷ [])
+    → AreNoted keys c h ops → AreNoted more d h (ops ++ op ∷ [])
+
+-- so they are with one more that changes no cell, which needs no note
+abbrev pub UnchangingNeedsNoNote : Type 0
+UnchangingNeedsNoNote =
+    (keys more : List (List ℕ)) (c d : ChangedState) (h : ReplicaState) (ops : List Op) (op : Op) → IsPrefix keys more
+    → ((j : ℕ) → spans_of d j ≡ spans_of c j) → (step (fold step h ops) op).cells ≡ (fold step h ops).cells
+    → AreNoted keys c h ops → AreNoted more d h (ops ++ op ∷ [])
 
 -- operations that are noted are covered by the list of changed series
 abbrev pub NotedOperationsAreCovered : Type 0
 NotedOperationsAreCovered =
-    (keys : List (List ℕ)) (c : ChangedState) (series : List ChangedSeries) (ops : List Op)
-    → AreChangedSeries keys c.spans series → AreNoted keys c ops → All (λ op. is_covered series op ≡ true) ops
+    (keys : List (List ℕ)) (c : ChangedState) (series : List ChangedSeries) (h : ReplicaState) (ops : List Op)
+    → AreChangedSeries keys c.spans series → AreNoted keys c h ops → AreCovered series h ops
 
 -- ---- cells within spans
 
@@ -51,14 +58,14 @@ NotedOperationsAreCovered =
 abbrev pub CoveredCellsAreAnUpdate : Type 0
 CoveredCellsAreAnUpdate =
     (h : ReplicaState) (ops : List Op) (series : List ChangedSeries) → GoesOn h
-    → All (λ op. is_covered series op ≡ true) ops
+    → AreCovered series h ops
     → IsUpdate h.cells (fold step h ops).cells (retain_keys (fold step h ops).cells (is_within h.schema series))
 
 -- so whoever has the cells of then, and joins those within the spans one by one, has the cells of now
 abbrev pub CoveredCellsMakeTheCells : Type 0
 CoveredCellsMakeTheCells =
     (h : ReplicaState) (ops : List Op) (series : List ChangedSeries) → GoesOn h
-    → All (λ op. is_covered series op ≡ true) ops
+    → AreCovered series h ops
     → join_cells h.schema h.cells (changes_among h.schema series (entries (fold step h ops).cells))
     ≡ (fold step h ops).cells
 
@@ -66,20 +73,22 @@ CoveredCellsMakeTheCells =
 abbrev pub BatchesAreTheWhole : Type 0
 BatchesAreTheWhole =
     (limit : ℕ) (after : Option CellName) (es : List NamedCell) (batches : List (List NamedCell))
-    → IsTrue (is_sorted cell_name_cmp es) → AreBatches limit after es batches → flat_map (λ b. b) batches ≡ cells_after after es
+    → IsTrue (is_sorted cell_name_cmp es) → AreBatches limit after es batches
+    → flat_map (λ b. b) batches ≡ cells_after after es
 
 -- so whoever has the cells of then, and joins the batches to the end, has the cells of now
 abbrev pub BatchesMakeTheCells : Type 0
 BatchesMakeTheCells =
     (h : ReplicaState) (ops : List Op) (series : List ChangedSeries) (limit : ℕ) (batches : List (List NamedCell))
-    → GoesOn h → All (λ op. is_covered series op ≡ true) ops
+    → GoesOn h → AreCovered series h ops
     → AreBatches limit None (changes_among h.schema series (entries (fold step h ops).cells)) batches
     → join_cells h.schema h.cells (flat_map (λ b. b) batches) ≡ (fold step h ops).cells
 
 -- so they do where each operation since then is noted, by the number of its series, and these series are asked for
 abbrev pub NotedChangesMakeTheCells : Type 0
 NotedChangesMakeTheCells =
-    (h : ReplicaState) (ops : List Op) (keys : List (List ℕ)) (c : ChangedState) (series : List ChangedSeries) (limit : ℕ)
-    (batches : List (List NamedCell)) → GoesOn h → AreNoted keys c ops → AreChangedSeries keys c.spans series
+    (h : ReplicaState) (ops : List Op) (keys : List (List ℕ)) (c : ChangedState) (series : List ChangedSeries)
+    (limit : ℕ)
+    (batches : List (List NamedCell)) → GoesOn h → AreNoted keys c h ops → AreChangedSeries keys c.spans series
     → AreBatches limit None (changes_among h.schema series (entries (fold step h ops).cells)) batches
     → join_cells h.schema h.cells (flat_map (λ b. b) batches) ≡ (fold step h ops).cells

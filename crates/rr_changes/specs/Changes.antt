@@ -1,5 +1,5 @@
 -- The cells of changed series that are in the slots of their spans, a number of them at a time.
-use Rattle.std.specs.Prelude.{◌≡◌, ℕ, ℤ, ◌-◌, int_le, nat_eq, nat_lt, All, Bool, MatchBool, ◌&&◌, ◌||◌, List, [], ◌∷◌, ◌++◌, length, take, if◌then◌else◌, Option, Some, None}
+use Rattle.std.specs.Prelude.{◌≡◌, ◌⊎◌, ℕ, ℤ, ◌-◌, int_le, nat_eq, nat_lt, All, Bool, true, MatchBool, ◌&&◌, ◌||◌, List, [], ◌∷◌, ◌++◌, length, take, if◌then◌else◌, Option, Some, None}
 use Rattle.std.specs.Borrow.{Bor}
 use Rattle.std.specs.Cmp.Lexicographic.{pointwise, slice_cmp}
 use Rattle.std.specs.List.{filter, list_any}
@@ -13,7 +13,8 @@ use Rattle.rr_cells.specs.declared.op.Op.{Op}
 use Rattle.rr_cells.specs.CellNames.{CellName, is_of}
 use Rattle.rr_cells.specs.CellBounds.{NamedCell}
 use Rattle.rr_cells.specs.Listing.{owned_cell}
-use Rattle.rr_cells.specs.Operations.{op_key}
+use Rattle.rr_cells.specs.Operations.{op_key, step}
+use Rattle.rr_cells.specs.ReplicaState.{ReplicaState}
 use Rattle.rr_delta.specs.Summaries.{cells_after}
 use Rattle.rr_changes.specs.declared.changed_series.ChangedSeries.{ChangedSeries}
 use Rattle.rr_changes.specs.declared.slots.Slots as source
@@ -52,6 +53,12 @@ is_op_in series op = pointwise nat_eq (op_key op) series.key && is_in_spans seri
 -- whether an operation is of one of these series, at a time of its spans
 abbrev pub is_covered : List ChangedSeries → Op → Bool
 is_covered series op = list_any (λ own. is_op_in own op) series
+
+-- each operation is so, or changes no cell of the replica where its turn comes
+abbrev pub AreCovered : List ChangedSeries → ReplicaState → List Op → Type 0
+AreCovered series h [] = Unit {0}
+AreCovered series h (op ∷ ops) =
+    ((is_covered series op ≡ true) ⊎ ((step h op).cells ≡ h.cells)) × AreCovered series (step h op) ops
 
 -- ---- a number of cells at a time
 

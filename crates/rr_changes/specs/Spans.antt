@@ -32,7 +32,8 @@ is_in_spans ps time = is_in_span ps.recent time || is_in_span ps.late time
 abbrev pub is_changed : Spans → Bool
 is_changed ps = not (is_empty ps.recent) || not (is_empty ps.late)
 
--- whether a time goes to the recent one: that is empty, or so near to the time, or not farther from it than the late one
+-- whether a time goes to the recent one: that is empty, or so near to the time, or not farther from it than the late
+-- one
 abbrev pub is_nearer_recent : ℕ → Spans → ℤ → Bool
 is_nearer_recent near ps time =
     is_empty ps.recent || nat_le (gap ps.recent time) near

@@ -1,12 +1,13 @@
 -- Which series changed, by their numbers, and the list of them by their keys.
-use Rattle.std.specs.Prelude.{◌≡◌, ◌≢◌, ℕ, ◌<◌, Bool, true, false, ◌==◌, List, map, take, length, slice_get, Option, Some, unwrap_or, All, Contains}
+use Rattle.std.specs.Prelude.{◌≡◌, ◌≢◌, ◌⊎◌, ℕ, ◌<◌, Bool, true, false, ◌==◌, List, [], ◌∷◌, map, take, length, slice_get, Option, Some, unwrap_or, All, Contains}
 use Rattle.std.specs.BTreeMap.{is_at}
 use Rattle.std.specs.Map.{lookup, keys_of}
-use Rattle.std.specs.List.{list_any, AllByRecursion}
+use Rattle.std.specs.List.{list_any}
 use Rattle.std.specs.List.Sorted.{IsStrictlySortedBy}
 use Rattle.rr_text.specs.Bytes.{bytes_cmp}
 use Rattle.rr_cells.specs.declared.op.Op.{Op}
-use Rattle.rr_cells.specs.Operations.{op_key}
+use Rattle.rr_cells.specs.Operations.{op_key, step}
+use Rattle.rr_cells.specs.ReplicaState.{ReplicaState}
 use Rattle.rr_replica.specs.Numbered.{knows}
 use Rattle.rr_changes.specs.declared.changed_series.ChangedSeries.{ChangedSeries}
 use Rattle.rr_changes.specs.declared.span.Spans.{Spans}
@@ -14,7 +15,8 @@ use Rattle.rr_changes.specs.declared.span.TheConstants.{UNCHANGED}
 use Rattle.rr_changes.specs.Spans.{is_changed, is_in_spans}
 use Rattle.rr_changes.specs.Updates.{op_time}
 
--- how near a time widens a span, the spans of each series by its number, and for how many more there is room to be listed
+-- how near a time widens a span, the spans of each series by its number, and for how many more there is room to be
+-- listed
 pub record ChangedState : Type 0 where
   pub near : ℕ
   pub spans : List Spans
@@ -91,5 +93,7 @@ pub record IsNoted (keys : List (List ℕ)) (c : ChangedState) (op : Op) : Type 
   pub key : slice_get keys number ≡ Some (op_key op)
   pub time : is_in_spans (spans_of c number) (op_time op) ≡ true
 
-abbrev pub AreNoted : List (List ℕ) → ChangedState → List Op → Type 0
-AreNoted keys c ops = AllByRecursion (IsNoted keys c) ops
+-- each of these is noted, or changes no cell of the replica where its turn comes
+abbrev pub AreNoted : List (List ℕ) → ChangedState → ReplicaState → List Op → Type 0
+AreNoted keys c h [] = Unit {0}
+AreNoted keys c h (op ∷ ops) = (IsNoted keys c op ⊎ ((step h op).cells ≡ h.cells)) × AreNoted keys c (step h op) ops

@@ -1,12 +1,14 @@
 //! Spans, and the changes within them.
-ghost use Rattle.rr_changes.specs.ChangeLaws.{NotedTimesAreIn, TimesStayIn, OperationsAreNoted, NotedOperationsAreCovered, CoveredCellsAreAnUpdate, CoveredCellsMakeTheCells, BatchesAreTheWhole, BatchesMakeTheCells, NotedChangesMakeTheCells};
+ghost use Rattle.rr_changes.specs.ChangeLaws.{NotedTimesAreIn, TimesStayIn, OneMoreIsNoted, UnchangingNeedsNoNote, NotedOperationsAreCovered, CoveredCellsAreAnUpdate, CoveredCellsMakeTheCells, BatchesAreTheWhole, BatchesMakeTheCells, NotedChangesMakeTheCells};
 
-/// A time that is noted is in the spans of its series, and stays there. So operations whose times
-/// are noted, by the numbers of their series, are covered by the list of changed series.
+/// A time that is noted is in the spans of its series, and stays there. So operations that are noted
+/// as they come, by the numbers of their series, are covered by the list of changed series; one that
+/// changes no cell needs no note.
 pub fn noted_operations_are_covered()
     ensures noted { NotedTimesAreIn }
     ensures stay { TimesStayIn }
-    ensures operations { OperationsAreNoted }
+    ensures one_more { OneMoreIsNoted }
+    ensures unchanging { UnchangingNeedsNoNote }
     ensures covered { NotedOperationsAreCovered }
 {}
 

@@ -13,5 +13,6 @@ returns-in-Some-clause-before c =
     let key = c.in-Some.cell.now.key in
     let n = c.partition_point.result in
     subst (λ o. AreBeforeName (name_in o) (take n series)) (sym c.in-Some.is)
-    (all_before key n series (IsPartitionPoint-from_clause (λ (own : ChangedSeries). is_lt (bytes_cmp own.key key)) series n
+    (all_before key n series (IsPartitionPoint-from_clause (λ (own : ChangedSeries). is_lt
+    (bytes_cmp own.key key)) series n
     c.partition_point.ensures.partitioned (parted key series c.requires) (λ a r f called. search rules)).0)

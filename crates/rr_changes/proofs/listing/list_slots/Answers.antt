@@ -50,7 +50,8 @@ returns-then-len-query-2 g c =
           let beyond : is_beyond p e ≡ true = sym w.are_before.ensures ∙ w.if-are_before.true in
           sym (up_to_end limit so_far)
           ∙ ap (up_to limit so_far) (sym (slots_end p e es beyond))
-          ∙ ap (λ o. up_to limit so_far (filter (is_in_slots p) (cells_from (option_map seen_cell o) es))) (sym c.in-Some.is)
+          ∙ ap (λ o. up_to limit so_far (filter (is_in_slots p) (cells_from (option_map seen_cell o) es)))
+          (sym c.in-Some.is)
           ∙ c.loop-next.invariant.cells
     ]
 
@@ -60,7 +61,8 @@ loop-next-smaller g c =
     let cell = c.in-Some.cell in
     let e = seen_cell cell in
     let slot : to_z w64 (of_z w64 cell.slot) ≡ cell.slot = search rules in
-    let left = ap (λ o. length (cells_from o es)) (rw slot at (rw c.loop-next.invariant.walk at c.next_cell-next.ensures.next).listed)
+    let left = ap (λ o. length (cells_from o es)) (rw slot at
+    (rw c.loop-next.invariant.walk at c.next_cell-next.ensures.next).listed)
     ∙ ap length (walked_on e.0 es (entries_sorted c.args.query.now.replica.now.cells)) in
     let before : length (cells_from (option_map seen_cell c.loop-next.next) es)
     ≡ suc (length (filter (is_past e.0) es)) = ap (λ o. length (cells_from (option_map seen_cell o) es))
@@ -77,7 +79,8 @@ loop-next-preserved g c =
     let limit = c.args.query.now.limit in
     let so_far = map owned_cell c.loop-next.cells.items in
     let slot : to_z w64 (of_z w64 cell.slot) ≡ cell.slot = search rules in
-    let left = ap (λ o. cells_from o es) (rw slot at (rw c.loop-next.invariant.walk at c.next_cell-next.ensures.next).listed)
+    let left = ap (λ o. cells_from o es) (rw slot at
+    (rw c.loop-next.invariant.walk at c.next_cell-next.ensures.next).listed)
     ∙ walked_on e.0 es (entries_sorted m) in
     let len : c.len-in-Some.result ≡ length c.loop-next.cells.items = search rules in
     let below : c.len-in-Some.result < limit = search rules in
@@ -86,7 +89,8 @@ loop-next-preserved g c =
       cells =
           (λ i. up_to limit (c.in_ok-push_in.ensures i) (filter (is_in_slots p) (left i)))
           ∙ slots_step_up_to p limit so_far e es room
-          ∙ ap (λ o. up_to limit so_far (filter (is_in_slots p) (cells_from (option_map seen_cell o) es))) (sym c.in-Some.is)
+          ∙ ap (λ o. up_to limit so_far (filter (is_in_slots p) (cells_from (option_map seen_cell o) es)))
+          (sym c.in-Some.is)
           ∙ c.loop-next.invariant.cells;
       walk = c.next_cell-next.ensures.same ∙ c.loop-next.invariant.walk;
     }

@@ -11,7 +11,8 @@ returns c =
     let len : vec_len a.changed ≡ length a.changed.items = search rules in
     let both = none_listed a.spans.items a.changed.items c.self.invariant in (
       λ t i. ap (λ (s : ChangedState). spans_of s i) (sym c.self.view_is)
-          ∙ both.0 (nil_from_length a.changed.items (sym len ∙ eqb-true (vec_len a.changed) 0 (sym c.is_empty.ensures ∙ t))) i,
+          ∙ both.0 (nil_from_length a.changed.items (sym len
+          ∙ eqb-true (vec_len a.changed) 0 (sym c.is_empty.ensures ∙ t))) i,
       λ all. c.is_empty.ensures ∙ eq-eqb (vec_len a.changed) 0
           (len ∙ ap length (both.1 (λ i. ap (λ (s : ChangedState). spans_of s i) c.self.view_is ∙ all i))),
     )

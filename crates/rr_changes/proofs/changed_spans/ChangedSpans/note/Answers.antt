@@ -11,7 +11,8 @@ invariant_of-self c =
     let i = c.args.series in
     let within : i < length a.spans.items = search rules in
     let was = c.index.ensures ∙ spans_there a.spans.items i c.index.result.now within in
-    let moves = ap is_changed c.with_time.ensures ∙ with_time_changed a.near c.index.result.now (to_z w64 (of_z w64 c.args.time)) in
+    let moves = ap is_changed c.with_time.ensures
+    ∙ with_time_changed a.near c.index.result.now (to_z w64 (of_z w64 c.args.time)) in
     let listed = ap (λ (p : Spans). if is_changed p then a.changed.items else a.changed.items ++ i ∷ []) (sym was)
     ∙ sym c.list.ensures in
     subst (λ (l : List ℕ). AreListed (set a.spans.items i c.with_time.result) l) listed

@@ -15,7 +15,8 @@ returns-clause-ascending g c =
     let entries = c.in_ok-by_key.by_key.entries in
     let by = c.in_ok-by_key.ensures in
     IfOk-weaker c.list_by_key.result (λ (series : Listed). series.items ≡ map series_of entries)
-    (λ (series : Listed). AreInOrder series.items) (λ series is. in_order entries series.items by.ordered is) c.list_by_key.ensures
+    (λ (series : Listed). AreInOrder series.items)
+    (λ series is. in_order entries series.items by.ordered is) c.list_by_key.ensures
 
 pub returns-clause-each : goal.returns-clause-each
 returns-clause-each g c =
