@@ -1,5 +1,5 @@
 -- Operations only add to cells, and what they change.
-use Rattle.std.proofs.Common.{◌≡◌, ℕ, ◌+◌, ◌<◌, ◌≤◌, Bool, true, false, cond, ◌&&◌, List, [], ◌∷◌, ◌++◌, map, fold, length, refl, sym, ap, ◌∙◌, subst, arith, true≢false, Ordering, Less, Equal, Greater, Option, Some, None, is_some, unwrap_or, ⊎_elim, ◌⊎◌, inl, inr, if◌then◌else◌}
+use Rattle.std.proofs.Common.{◌≡◌, ℕ, ◌+◌, ◌<◌, ◌≤◌, Bool, true, false, cond, ◌&&◌, List, [], ◌∷◌, ◌++◌, map, fold, length, refl, sym, ap, ◌∙◌, subst, arith, true≢false, Ordering, Equal, Greater, Option, Some, None, is_some, unwrap_or, ⊎_elim, ◌⊎◌, inl, inr, if◌then◌else◌}
 use Rattle.std.specs.Prelude.{nat_le, ◌==◌}
 use Rattle.std.specs.List.{range_with_len}
 use Rattle.std.specs.Ordering.{eq_by_cmp, is_lt, nat_cmp, int_cmp, ordering_then}
@@ -23,10 +23,9 @@ use Rattle.rr_cells.specs.Samples.{Sample, Mark, name_of, marks_of}
 use Rattle.rr_cells.specs.declared.op.Op.{Op}
 use Rattle.rr_cells.specs.declared.op.Op.TheVariants.{Put, Join}
 use Rattle.rr_cells.specs.declared.cell.Cell.{Cell}
-use Rattle.rr_cells.specs.CellBounds.{NamedCell}
 use Rattle.rr_cells.specs.Cells.{Cells, IsTrimmed}
 use Rattle.rr_cells.specs.Puts.{slot_sample_of, put_mark, put_marks, put_sample}
-use Rattle.rr_cells.specs.Joins.{join, join_cell}
+use Rattle.rr_cells.specs.Joins.{join_cell}
 use Rattle.rr_cells.specs.Joining.{next_after}
 use Rattle.rr_cells.specs.Listing.{owned_cell}
 use Rattle.rr_cells.specs.ReplicaState as state
@@ -39,7 +38,7 @@ use Rattle.rr_cells.proofs.Orders.{cell_name_cmp_total, cell_name_cmp-IsAntisymm
 use Rattle.rr_cells.proofs.Horizon.{live_horizon}
 use Rattle.rr_cells.proofs.JoinLaws.{join_trims, join_itself}
 use Rattle.rr_cells.proofs.PutsLemmas.{puts_trimmed}
-use Rattle.rr_cells.proofs.ReplicaStateLemmas.{Falls_at, put_cases}
+use Rattle.rr_cells.proofs.ReplicaStateLemmas.{put_cases}
 use Rattle.rr_cells.proofs.OperationsLemmas.{step-schema, steps-cells, outcome_of-append}
 use Rattle.rr_changes.proofs.HoldingLemmas.{one, holds_before, holds_further, update_makes_the_cells}
 

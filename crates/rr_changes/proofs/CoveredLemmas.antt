@@ -1,5 +1,5 @@
 -- The cells in the slots of spans that cover all operations.
-use Rattle.std.proofs.Common.{◌≡◌, ℕ, zero, suc, ◌<◌, ◌≤◌, ◌*◌, ◌/◌, ℤ, pos, negsuc, Bool, true, false, cond, ◌&&◌, ◌||◌, List, [], ◌∷◌, fold, refl, sym, ap, ◌∙◌, subst, arith, true≢false, Option, Some, None, is_some, ⊎_elim, ◌⊎◌, inl, inr}
+use Rattle.std.proofs.Common.{◌≡◌, ℕ, zero, suc, ◌≤◌, ◌*◌, ◌/◌, ℤ, pos, negsuc, Bool, true, false, cond, List, [], ◌∷◌, fold, sym, ap, ◌∙◌, subst, arith, true≢false, Option, Some, None, is_some, ⊎_elim, ◌⊎◌, inl, inr}
 use Rattle.std.specs.Prelude.{int_le, nat_eq}
 use Rattle.std.specs.Int.{int_div_euclid}
 use Rattle.std.specs.Cmp.Lexicographic.{pointwise}
@@ -25,7 +25,7 @@ use Rattle.rr_cells.proofs.Orders.{cell_name_cmp_total, cell_name_cmp-IsAntisymm
 use Rattle.rr_changes.specs.declared.changed_series.ChangedSeries.{ChangedSeries}
 use Rattle.rr_changes.specs.declared.span.Span.{Span}
 use Rattle.rr_changes.specs.declared.span.Spans.{Spans}
-use Rattle.rr_changes.specs.Updates.{GoesOn, IsUpdate, IsPlaceOf, op_time}
+use Rattle.rr_changes.specs.Updates.{GoesOn, IsPlaceOf, op_time}
 use Rattle.rr_changes.specs.Spans.{is_in_span, is_in_spans}
 use Rattle.rr_changes.specs.Changes.{AreCovered, is_cell_in, is_covered, is_op_in, is_slot_in_span, is_slot_in_spans, is_within}
 use Rattle.rr_changes.specs.ChangeLaws.{CoveredCellsAreAnUpdate, CoveredCellsMakeTheCells}

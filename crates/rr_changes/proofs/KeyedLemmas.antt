@@ -1,25 +1,24 @@
 -- Changed series by their keys.
-use Rattle.std.proofs.Common.{◌≡◌, ◌≢◌, ℕ, zero, suc, ◌+◌, ◌<◌, ◌≤◌, Bool, true, false, cond, ◌||◌, List, [], ◌∷◌, ◌++◌, map, take, length, slice_get, get_or, refl, sym, ap, ◌∙◌, subst, arith, true≢false, Option, Some, None, is_some, unwrap_or, ⊎_elim, ◌⊎◌, inl, inr, Ordering, Less, Equal, Greater}
-use Rattle.std.specs.Prelude.{nat_eq, ◌==◌, All, Contains}
+use Rattle.std.proofs.Common.{◌≡◌, ◌≢◌, ℕ, zero, suc, ◌<◌, Bool, true, false, cond, List, [], ◌∷◌, ◌++◌, map, take, slice_get, refl, sym, ap, ◌∙◌, subst, arith, true≢false, Option, Some, None, is_some, unwrap_or, ⊎_elim, ◌⊎◌, inl, inr, Ordering, Less, Equal, Greater}
+use Rattle.std.specs.Prelude.{nat_eq, Contains}
 use Rattle.std.specs.BTreeMap.{is_at}
-use Rattle.std.specs.Map.{lookup, keys_of}
+use Rattle.std.specs.Map.{keys_of}
 use Rattle.std.specs.Cmp.Lexicographic.{pointwise, bytes_decides, nat_list_cmp_total}
-use Rattle.std.specs.List.{list_any, AllByRecursion}
+use Rattle.std.specs.List.{AllByRecursion}
 use Rattle.std.specs.List.Sorted.{IsStrictlySortedBy}
 use Rattle.std.specs.Ordering.{is_eq, ordering_reverse}
 use Rattle.std.proofs.lemmas.Map.Lookups.{exact_bytes}
-use Rattle.std.proofs.lemmas.Bool.{eqb-true, false_from_ne_true, or_left, or_right, cases_lt}
-use Rattle.std.proofs.lemmas.List.Elements.{All-from_recursion, Contains-append_cases}
+use Rattle.std.proofs.lemmas.Bool.{false_from_ne_true, cases_lt}
+use Rattle.std.proofs.lemmas.List.Elements.{All-from_recursion}
 use Rattle.rr_text.specs.Bytes.{bytes_cmp}
 use Rattle.rr_replica.specs.Numbered.{knows}
 use Rattle.rr_replica.proofs.IndexedLemmas.{is_itself}
 use Rattle.rr_replica.proofs.NumberedLemmas.{knows_at}
 use Rattle.rr_changes.specs.declared.changed_series.ChangedSeries.{ChangedSeries}
 use Rattle.rr_changes.specs.declared.span.Spans.{Spans}
-use Rattle.rr_changes.specs.declared.span.TheConstants.{UNCHANGED}
 use Rattle.rr_changes.specs.Spans.{is_changed}
 use Rattle.rr_changes.specs.Tracking.{AddsSeries, AreByKey, AreChangedSeries, AreInOrder, AreListed, IsSeriesAt, is_listed, series_of, spans_at, spans_by}
-use Rattle.rr_changes.proofs.TrackingLemmas.{listed_cases, listed_here}
+use Rattle.rr_changes.proofs.TrackingLemmas.{listed_cases}
 
 -- ---- keys by number
 

@@ -1,16 +1,16 @@
 -- Spans with a time more, and which series changed.
-use Rattle.std.proofs.Common.{◌≡◌, ◌≢◌, ℕ, zero, suc, ◌+◌, ◌<◌, ◌≤◌, ℤ, Bool, true, false, cond, not, ◌&&◌, ◌||◌, List, [], ◌∷◌, ◌++◌, fold, length, drop, replicate, set, slice_get, get_or, refl, sym, ap, ◌∙◌, subst, arith, true≢false, Option, Some, None, unwrap_or, is_some, ⊎_elim, ◌⊎◌, inl, inr, add-one}
-use Rattle.std.specs.Prelude.{int_le, int_lt, nat_eq, ◌==◌, All, Contains, if◌then◌else◌}
+use Rattle.std.proofs.Common.{◌≡◌, ◌≢◌, ℕ, zero, suc, ◌+◌, ◌<◌, ℤ, Bool, true, false, not, ◌&&◌, ◌||◌, List, [], ◌∷◌, ◌++◌, fold, length, drop, set, slice_get, get_or, refl, sym, ap, ◌∙◌, subst, arith, true≢false, Some, is_some, ⊎_elim, ◌⊎◌, inl, inr, add-one}
+use Rattle.std.specs.Prelude.{int_le, int_lt, nat_eq, ◌==◌, Contains, if◌then◌else◌}
 use Rattle.std.specs.Cmp.Lexicographic.{pointwise, bytes_decides}
 use Rattle.std.specs.Int.{int_min, int_max}
-use Rattle.std.specs.List.{list_any, AllByRecursion}
+use Rattle.std.specs.List.{list_any}
 use Rattle.std.proofs.lemmas.Bool.{and_from, eqb-true, eq-eqb, or_left, or_right, false_from_ne_true}
 use Rattle.std.proofs.lemmas.Int.{ints}
 use Rattle.std.proofs.Math.ListN.{length-set}
 use Rattle.std.proofs.Math.Seq.{drop-cons}
-use Rattle.std.proofs.lemmas.List.Elements.{All-from_recursion, Contains-append_cases, Contains-push_cases}
+use Rattle.std.proofs.lemmas.List.Elements.{Contains-append_cases, Contains-push_cases}
 use mathlib.Core.List.{IsPrefix}
-use Rattle.rr_join.proofs.Booleans.{and_first, and_second, either_case}
+use Rattle.rr_join.proofs.Booleans.{either_case}
 use Rattle.rr_cells.specs.declared.op.Op.{Op}
 use Rattle.rr_cells.specs.Operations.{op_key, step}
 use Rattle.rr_cells.specs.ReplicaState.{ReplicaState}
@@ -20,7 +20,7 @@ use Rattle.rr_changes.specs.declared.span.Spans.{Spans}
 use Rattle.rr_changes.specs.declared.span.TheConstants.{UNCHANGED}
 use Rattle.rr_changes.specs.Updates.{op_time}
 use Rattle.rr_changes.specs.Spans.{is_changed, is_empty, is_in_span, is_in_spans, is_nearer_recent, widened, with_time}
-use Rattle.rr_changes.specs.Tracking.{AreChangedSeries, AreListed, AreNoted, ChangedState, IsNoted, IsSeriesAt, is_listed, spans_at, spans_of}
+use Rattle.rr_changes.specs.Tracking.{AreListed, AreNoted, ChangedState, IsNoted, is_listed, spans_at, spans_of}
 use Rattle.rr_changes.specs.Changes.{AreCovered, is_covered, is_op_in}
 use Rattle.rr_changes.specs.ChangeLaws.{NotedOperationsAreCovered, NotedTimesAreIn, OneMoreIsNoted, TimesStayIn, UnchangingNeedsNoNote}
 

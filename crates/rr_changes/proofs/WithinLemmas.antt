@@ -1,10 +1,10 @@
 -- Cells within the spans of series: archive by archive, and series by series.
-use Rattle.std.proofs.Common.{◌≡◌, ℕ, zero, suc, ◌+◌, ◌-◌, ◌<◌, ◌≤◌, ℤ, Bool, true, false, cond, ◌&&◌, ◌||◌, T, List, [], ◌∷◌, ◌++◌, map, length, take, drop, get_or, refl, sym, ap, ◌∙◌, subst, arith, true≢false, Option, Some, None, Ordering, Less, Equal, Greater}
+use Rattle.std.proofs.Common.{◌≡◌, ℕ, zero, suc, ◌+◌, ◌-◌, ◌<◌, ◌≤◌, Bool, true, false, cond, ◌&&◌, ◌||◌, T, List, [], ◌∷◌, ◌++◌, map, length, take, drop, get_or, refl, sym, ap, ◌∙◌, arith, true≢false, Option, Some, None, Less, Equal, Greater}
 use Rattle.std.specs.Prelude.{int_le, int_lt, nat_eq, nat_lt, ◌==◌, All}
 use Rattle.std.specs.Int.{int_min, int_max}
 use Rattle.std.specs.Cmp.{tied_itself}
 use Rattle.std.specs.Cmp.Lexicographic.{slice_cmp, pointwise, bytes_decides, nat_list_cmp_total}
-use Rattle.std.specs.List.{filter, list_any, AllByRecursion, AllWithin}
+use Rattle.std.specs.List.{filter, AllByRecursion, AllWithin}
 use Rattle.std.specs.List.Sorted.{IsPartitionedBy, IsStrictlySortedBy}
 use Rattle.std.specs.Ordering.{is_lt, nat_cmp, int_cmp, ordering_reverse, ordering_then}
 use Rattle.std.specs.FinMap.{is_sorted}
@@ -14,7 +14,7 @@ use Rattle.std.proofs.lemmas.List.{length-drop, take_all}
 use Rattle.std.proofs.lemmas.List.Elements.{All-from_recursion, recursion_from_All}
 use Rattle.rr_join.proofs.Booleans.{and_first, and_second, either_case}
 use Rattle.rr_text.specs.Bytes.{bytes_cmp}
-use Rattle.rr_schema.specs.Schema.{Layout, slot_of}
+use Rattle.rr_schema.specs.Schema.{Layout}
 use Rattle.rr_cells.specs.CellNames.{CellName, cell_name_cmp, is_of}
 use Rattle.rr_cells.specs.CellBounds.{NamedCell, IsCellOf}
 use Rattle.rr_replica.proofs.NextCell.{is_past}
@@ -24,7 +24,7 @@ use Rattle.rr_changes.specs.declared.changed_series.ChangedSeries.{ChangedSeries
 use Rattle.rr_changes.specs.Tracking.{AreInOrder}
 use Rattle.rr_changes.specs.Changes.{AreBeforeName, Slots, is_cell_in, is_cell_in_archive, is_in_slots, is_slot_in_span, is_slot_in_spans, changes_among, is_within, slots_of, up_to}
 use Rattle.rr_changes.proofs.FilterLemmas.{either_first, everywhere, none_at_all, one_after_other, same_filter, up_to_twice}
-use Rattle.rr_changes.proofs.SlotLemmas.{IsIn, is_in_says, slots_apart, slots_both}
+use Rattle.rr_changes.proofs.SlotLemmas.{is_in_says, slots_apart, slots_both}
 
 -- ---- the two spans of an archive
 

@@ -1,4 +1,4 @@
-use Rattle.std.proofs.Common.{rules, ◌≡◌, List, ℕ, sym, ap, ◌∙◌, subst, Some, cond}
+use Rattle.std.proofs.Common.{rules, ◌≡◌, List, ℕ, subst, Some, cond}
 use Rattle.std.specs.BTreeMap.{is_at}
 use Rattle.rr_text.specs.Bytes.{bytes_cmp}
 use Rattle.rr_changes.specs.Tracking.{spans_by}

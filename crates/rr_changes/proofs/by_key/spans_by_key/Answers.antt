@@ -1,4 +1,4 @@
-use Rattle.std.proofs.Common.{rules, pos, ◌≡◌, ◌<◌, ◌+◌, ℕ, List, [], length, take, get_or, sym, ap, ◌∙◌, subst, true}
+use Rattle.std.proofs.Common.{rules, pos, ◌≡◌, ◌<◌, ℕ, List, length, take, get_or, sym, subst, true}
 use Rattle.std.proofs.lemmas.List.{take_all, take_more}
 use Rattle.rr_changes.specs.declared.span.Span.{Span}
 use Rattle.rr_changes.specs.declared.span.Spans.{Spans}

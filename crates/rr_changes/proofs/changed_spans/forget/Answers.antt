@@ -1,4 +1,4 @@
-use Rattle.std.proofs.Common.{rules, ◌≡◌, ◌<◌, ◌*◌, ◌∙◌, ℕ, length, get_or, subst, sym, arith}
+use Rattle.std.proofs.Common.{rules, ◌<◌, ◌∙◌, length, get_or, arith}
 use Rattle.std.proofs.Math.ListN.{length-set}
 use Rattle.rr_changes.specs.declared.span.TheConstants.{UNCHANGED}
 use Rattle.rr_changes.proofs.TrackingLemmas.{all_within, forgotten}

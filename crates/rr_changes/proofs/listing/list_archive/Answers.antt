@@ -1,9 +1,8 @@
-use Rattle.std.proofs.Common.{rules, ◌≡◌, ℤ, map, true, false, ap, sym, ◌∙◌, arith, to_z, of_z, w64}
+use Rattle.std.proofs.Common.{rules, ◌≡◌, map, true, false, ap, ◌∙◌, to_z, of_z, w64}
 use Rattle.std.specs.Prelude.{int_lt}
 use Rattle.std.specs.Int.{int_min, int_max}
 use Rattle.std.specs.List.{filter}
 use Rattle.std.specs.FinMap.{entries, entries_sorted}
-use Rattle.std.proofs.lemmas.Int.{ints}
 use Rattle.std.proofs.lemmas.Result.{on_ok_weaker}
 use Rattle.rr_schema.specs.Schema.{Layout}
 use Rattle.rr_cells.specs.Listing.{owned_cell}

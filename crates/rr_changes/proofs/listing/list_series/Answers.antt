@@ -1,14 +1,13 @@
-use Rattle.std.proofs.Common.{rules, ◌≡◌, ◌≤◌, ◌++◌, ℕ, map, length, ap, sym, ◌∙◌, subst}
+use Rattle.std.proofs.Common.{◌≡◌, ◌≤◌, map, length, ap, sym, ◌∙◌, subst}
 use Rattle.std.specs.List.{filter}
 use Rattle.std.specs.FinMap.{entries, entries_sorted}
 use Rattle.rr_schema.specs.Schema.{Layout}
-use Rattle.rr_cells.specs.CellBounds.{IsCellOf}
 use Rattle.rr_cells.specs.Listing.{owned_cell}
 use Rattle.rr_replica.specs.ReplicaWithRoom.{replica_state}
 use Rattle.rr_delta.specs.Summaries.{cells_after}
 use Rattle.rr_delta.proofs.HeldLemmas.{after_held, all_held}
 use Rattle.rr_delta.proofs.Walks.{sorted_after}
-use Rattle.rr_changes.specs.Changes.{is_cell_in, is_cell_in_archive, name_in, up_to}
+use Rattle.rr_changes.specs.Changes.{is_cell_in_archive, name_in, up_to}
 use Rattle.rr_changes.proofs.FilterLemmas.{up_to_end, up_to_twice}
 use Rattle.rr_changes.proofs.WithinLemmas.{all_archives, archive_more, is_before_archive, none_before}
 use Rattle.rr_changes.proofs.listing.list_series.Goals as goal

@@ -1,4 +1,4 @@
-use Rattle.std.proofs.Common.{rules, ◌≡◌, ◌++◌, ◌≤◌, ◌<◌, map, sym, ap, ◌∙◌, subst, length, arith, suc, to_z, of_z, w64, true}
+use Rattle.std.proofs.Common.{rules, ◌≡◌, ◌≤◌, ◌<◌, map, sym, ap, ◌∙◌, length, arith, suc, to_z, of_z, w64, true}
 use Rattle.std.specs.Prelude.{int_lt}
 use Rattle.std.specs.List.{filter}
 use Rattle.std.specs.Option.{option_map}

@@ -1,4 +1,4 @@
-use Rattle.std.proofs.Common.{rules, ◌≡◌, ◌≤◌, ◌<◌, [], List, map, take, drop, length, arith, ap, sym, ◌∙◌, subst, vec_len}
+use Rattle.std.proofs.Common.{rules, ◌≡◌, ◌≤◌, map, take, drop, length, arith, ap, sym, ◌∙◌, subst, vec_len}
 use Rattle.std.specs.FinMap.{entries, entries_sorted, is_sorted}
 use Rattle.std.proofs.lemmas.List.{length-take, take_all}
 use Rattle.rr_join.proofs.Booleans.{true_from_T}

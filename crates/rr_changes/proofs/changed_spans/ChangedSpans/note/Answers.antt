@@ -1,7 +1,7 @@
-use Rattle.std.proofs.Common.{rules, ◌≡◌, ◌<◌, ◌≢◌, ◌++◌, ◌∷◌, [], ℕ, ℤ, true, List, length, set, ap, sym, ◌∙◌, subst, if◌then◌else◌, to_z, of_z, w64}
+use Rattle.std.proofs.Common.{rules, ◌≡◌, ◌<◌, ◌++◌, ◌∷◌, [], ℕ, List, length, set, ap, sym, ◌∙◌, subst, if◌then◌else◌, to_z, of_z, w64}
 use Rattle.rr_changes.specs.declared.span.Spans.{Spans}
 use Rattle.rr_changes.specs.Spans.{is_changed, with_time}
-use Rattle.rr_changes.specs.Tracking.{AreListed, ChangedState, spans_at, spans_of}
+use Rattle.rr_changes.specs.Tracking.{AreListed, ChangedState, spans_of}
 use Rattle.rr_changes.proofs.TrackingLemmas.{listed_too, spans_set_here, spans_set_other, spans_there, with_time_changed}
 use Rattle.rr_changes.proofs.changed_spans.ChangedSpans.note.Goals as goal
 

@@ -1,4 +1,4 @@
-use Rattle.std.proofs.Common.{rules, ◌≡◌, List, map, ap, ◌∙◌, subst}
+use Rattle.std.proofs.Common.{◌≡◌, List, map, ap, ◌∙◌, subst}
 use Rattle.std.specs.Global.{Vec}
 use Rattle.std.proofs.lemmas.Result.{IfOk-weaker}
 use Rattle.rr_changes.specs.declared.span.Spans.{Spans}
