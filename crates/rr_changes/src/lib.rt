@@ -6,10 +6,13 @@
 //! alone, in the slots of its time. So whoever notes, of each series, the times of its changes,
 //! finds an update among its cells at the cost of the series that changed, and never of all.
 //!
-//! [`ChangedSpans`] notes them: at most two [`Spans`] of times a series (`specs/Tracking.antt`). It
-//! lists the changed series in the order of their keys, and [`next_changes`] gives the cells that
-//! are in the slots of their spans, a number of them at a time (`specs/Changes.antt`). Once all are
-//! written, it is cleared. [`laws`] say what the cells of all batches come to.
+//! [`ChangedSpans`] notes them: at most two [`Spans`] of times a series (`specs/Tracking.antt`).
+//! Before an operation is applied it is made `ready` for its series, and after that `note` can't
+//! fail. To write what changed, its `series` are listed in the order of their keys, and
+//! [`next_changes`] gives the cells in the slots of their spans, so many at a time, each call after
+//! the last cell of the one before, until fewer come (`specs/Changes.antt`). Once they are written,
+//! it is cleared; if they aren't, the next list has them again. [`laws`] say what the cells of all
+//! calls come to.
 #![tactic(auto)]
 
 mod by_key;

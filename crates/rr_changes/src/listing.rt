@@ -26,9 +26,26 @@ struct Query<'a, A: Cells> {
     limit: usize,
 }
 
-/// The first cell from which a walk goes on to those in some slots that come after the cell that
-/// was asked for.
-fn first_in<'a, A: Cells>(
+/// The cell from which a walk goes on to all those in some slots.
+fn first_of<'a, A: Cells>(
+    walk: &mut CellWalk<'a, A>,
+    query: &Query<'a, A>,
+    slots: &Slots<'_>,
+) -> Option<CellRef<'a>>
+    requires walk { walk.old ≡ query.now.replica.now }
+    requires slot { IsSlot slots.now.first }
+    ensures same { walk.new ≡ walk.old }
+    ensures first { filter (is_in_slots (seen_slots slots.now))
+        (cells_from (option_map seen_cell result) (entries query.now.replica.now.cells))
+        ≡ filter (is_in_slots (seen_slots slots.now)) (entries query.now.replica.now.cells) }
+{
+    let origin = query.replica.origin();
+    walk.next_cell(slots.key, slots.archive, slots.first - 1, origin)
+}
+
+/// The cell from which a walk goes on to those in some slots that come after the cell that was
+/// asked for.
+fn first_after<'a, A: Cells>(
     walk: &mut CellWalk<'a, A>,
     query: &Query<'a, A>,
     slots: &Slots<'_>,
@@ -42,20 +59,10 @@ fn first_in<'a, A: Cells>(
         (cells_after (name_in query.now.after) (entries query.now.replica.now.cells)) }
 {
     let Some(after) = query.after else {
-        return walk.next_cell(
-            slots.key,
-            slots.archive,
-            slots.first - 1,
-            query.replica.origin(),
-        );
+        return first_of(walk, query, slots);
     };
     if slots.are_after(after) {
-        return walk.next_cell(
-            slots.key,
-            slots.archive,
-            slots.first - 1,
-            query.replica.origin(),
-        );
+        return first_of(walk, query, slots);
     }
     walk.next_cell(&after.key, after.archive, after.slot, after.origin)
 }
@@ -75,7 +82,7 @@ fn list_slots<A: Cells>(
         return Ok(());
     }
     let mut walk = CellWalk::new(query.alloc, query.replica);
-    let mut next = first_in(&mut walk, query, slots);
+    let mut next = first_after(&mut walk, query, slots);
     while let Some(cell) = next {
         if cells.len() >= query.limit || slots.are_before(&cell) {
             return Ok(());
@@ -130,7 +137,8 @@ fn list_series<A: Cells>(
         (filter (λ e. is_cell_in query.now.replica.now.schema series.now e.0)
         (cells_after (name_in query.now.after) (entries query.now.replica.now.cells)))) }
 {
-    for archive in 0..query.replica.schema().archives().len() {
+    let archives = query.replica.schema().archives();
+    for archive in 0..archives.len() {
         list_archive(query, series, archive as u8, cells)?;
     }
     Ok(())

@@ -45,7 +45,7 @@ returns g c =
     let after = name_in c.args.query.now.after in
     let es = cells_after after (entries h.cells) in
     let so_far = map owned_cell c.args.cells.now.items in
-    let past : length s.archives ≤ i = subst (λ n. n ≤ i) (ap length (c.archives-archive-end.ensures.value
+    let past : length s.archives ≤ i = subst (λ n. n ≤ i) (ap length (c.archives-archives.ensures.value
     ∙ ap (λ (l : Layout). l.archives) c.schema.ensures.value)) c.loop-archive-test.false in
     c.loop-archive.invariant
     ∙ ap (up_to c.args.query.now.limit so_far) (all_archives s own i es past
