@@ -15,9 +15,9 @@ use Rattle.rr_replica.proofs.Counted.{take_all}
 use Rattle.rr_delta.specs.Summaries.{cells_after, cells_from}
 use Rattle.rr_delta.proofs.Walks.{sorted_filter, walked_on, walked_to}
 use Rattle.rr_changes.specs.Changes.{AreBatches, changes_among, is_within, last_name, next_of}
-use Rattle.rr_changes.specs.ChangeLaws.{BatchesAreTheWhole, BatchesMakeTheCells, NotedChangesMakeTheCells}
+use Rattle.rr_changes.specs.ChangeLaws.{BatchesAreTheWhole, BatchesMakeTheCells, TrackedChangesMakeTheCells}
 use Rattle.rr_changes.proofs.CoveredLemmas.{covered_cells_make_the_cells}
-use Rattle.rr_changes.proofs.TrackingLemmas.{noted_operations_are_covered}
+use Rattle.rr_changes.proofs.TrackingLemmas.{tracked_operations_are_covered}
 
 -- after the first of the cells after a name are the others of them
 after_next : (after : Option CellName) (es : List NamedCell) (x : NamedCell) (xs : List NamedCell)
@@ -84,7 +84,7 @@ batches_make_the_cells h ops series limit batches goes covered are =
     (true_from_T _ (sorted_filter (λ e. is_within h.schema series e.0) (entries m) (entries_sorted m))) are)
     ∙ covered_cells_make_the_cells h ops series goes covered
 
-pub noted_changes_make_the_cells : NotedChangesMakeTheCells
-noted_changes_make_the_cells h ops keys c series limit batches goes noted are batch =
+pub tracked_changes_make_the_cells : TrackedChangesMakeTheCells
+tracked_changes_make_the_cells h ops keys c series limit batches goes tracked are batch =
     batches_make_the_cells h ops series limit batches goes
-    (noted_operations_are_covered keys c series h ops are noted) batch
+    (tracked_operations_are_covered keys c series h ops are tracked) batch

@@ -20,9 +20,9 @@ use Rattle.rr_changes.specs.declared.span.Spans.{Spans}
 use Rattle.rr_changes.specs.declared.span.TheConstants.{UNCHANGED}
 use Rattle.rr_changes.specs.Updates.{op_time}
 use Rattle.rr_changes.specs.Spans.{is_changed, is_empty, is_in_span, is_in_spans, is_nearer_recent, widened, with_time}
-use Rattle.rr_changes.specs.Tracking.{AreListed, AreNoted, ChangedState, IsNoted, is_listed, spans_at, spans_of}
+use Rattle.rr_changes.specs.Tracking.{AreListed, AreTracked, ChangedState, IsTracked, is_listed, spans_at, spans_of}
 use Rattle.rr_changes.specs.Changes.{AreCovered, is_covered, is_op_in}
-use Rattle.rr_changes.specs.ChangeLaws.{NotedOperationsAreCovered, NotedTimesAreIn, OneMoreIsNoted, TimesStayIn, UnchangingNeedsNoNote}
+use Rattle.rr_changes.specs.ChangeLaws.{TrackedOperationsAreCovered, TrackedTimesAreIn, OneMoreIsTracked, TimesStayIn, UnchangingNeedsNoTracking}
 
 -- ---- a time more
 
@@ -39,8 +39,8 @@ widened_still p time other e = wider p.first p.last time other e
         → (int_le (int_min a t) u && int_le u (int_max b t)) ≡ true
     wider a b t u e = grind (arith, ints)
 
-pub noted_times_are_in : NotedTimesAreIn
-noted_times_are_in near ps time = elim (is_nearer_recent near ps time) as (λ b. is_in_spans
+pub tracked_times_are_in : TrackedTimesAreIn
+tracked_times_are_in near ps time = elim (is_nearer_recent near ps time) as (λ b. is_in_spans
     (if b then record { recent = widened ps.recent time; late = ps.late }
     else record { recent = ps.recent; late = widened ps.late time }) time ≡ true) [
       | true ↦ or_left (is_in_span (widened ps.recent time) time) (is_in_span ps.late time) (widened_has ps.recent time)
@@ -74,7 +74,7 @@ changed_there ps time e = either_case (is_in_span ps.recent time) (is_in_span ps
     (λ h. or_right (not (is_empty ps.recent)) (not (is_empty ps.late)) (has_time ps.late time h))
 
 pub with_time_changed : (near : ℕ) (ps : Spans) (time : ℤ) → is_changed (with_time near ps time) ≡ true
-with_time_changed near ps time = changed_there (with_time near ps time) time (noted_times_are_in near ps time)
+with_time_changed near ps time = changed_there (with_time near ps time) time (tracked_times_are_in near ps time)
 
 -- ---- spans by number
 
@@ -209,7 +209,7 @@ pub all_within : (spans : List Spans) (changed : List ℕ) (k d : ℕ) → AreLi
     → get_or changed k d < length spans
 all_within spans changed k d are lt = are.within (get_or changed k d) (listed_here changed k d lt)
 
--- ---- operations that are noted
+-- ---- operations that are tracked
 
 module _ {A : Type 0} where
   prefix_has : (xs ys : List A) (i : ℕ) (x : A) → IsPrefix xs ys → slice_get xs i ≡ Some x → slice_get ys i ≡ Some x
@@ -220,28 +220,28 @@ module _ {A : Type 0} where
       ap (λ (w : A). Some w) (sym same) ∙ at
   prefix_has (z ∷ xs) (y ∷ ys) (suc i) x p at = prefix_has xs ys i x (p.0, cc (p.1)) at
 
--- with keys that grow and spans that widen they are noted still, and one more is or changes nothing
-more_noted : (keys more : List (List ℕ)) (c d : ChangedState) (op : Op) → IsPrefix keys more
+-- with keys that grow and spans that widen they are tracked still, and one more is or changes nothing
+more_tracked : (keys more : List (List ℕ)) (c d : ChangedState) (op : Op) → IsPrefix keys more
     → ((j : ℕ) (time : ℤ) → is_in_spans (spans_of c j) time ≡ true → is_in_spans (spans_of d j) time ≡ true)
     → (ops : List Op) (h : ReplicaState)
-    → IsNoted more d op ⊎ ((step (fold step h ops) op).cells ≡ (fold step h ops).cells)
-    → AreNoted keys c h ops → AreNoted more d h (ops ++ op ∷ [])
-more_noted keys more c d op grow wider [] h last all = (last, tt)
-more_noted keys more c d op grow wider (o ∷ ops) h last all = (
+    → IsTracked more d op ⊎ ((step (fold step h ops) op).cells ≡ (fold step h ops).cells)
+    → AreTracked keys c h ops → AreTracked more d h (ops ++ op ∷ [])
+more_tracked keys more c d op grow wider [] h last all = (last, tt)
+more_tracked keys more c d op grow wider (o ∷ ops) h last all = (
   ⊎_elim (λ is. inl (still is)) (λ same. inr same) all.0,
-  more_noted keys more c d op grow wider ops (step h o) last all.1,
+  more_tracked keys more c d op grow wider ops (step h o) last all.1,
 )
   where
-    still : IsNoted keys c o → IsNoted more d o
+    still : IsTracked keys c o → IsTracked more d o
     still is = record {
       number = is.number;
       key = prefix_has keys more is.number (op_key o) grow is.key;
       time = wider is.number (op_time o) is.time;
     }
 
-pub one_more_is_noted : OneMoreIsNoted
-one_more_is_noted keys more c d h ops op i grow at here others all =
-    more_noted keys more c d op grow wider ops h (inl new) all
+pub one_more_is_tracked : OneMoreIsTracked
+one_more_is_tracked keys more c d h ops op i grow at here others all =
+    more_tracked keys more c d op grow wider ops h (inl new) all
   where
     wider : (j : ℕ) (time : ℤ) → is_in_spans (spans_of c j) time ≡ true → is_in_spans (spans_of d j) time ≡ true
     wider j time e = elim (j == i) as (λ b. (j == i) ≡ b → is_in_spans (spans_of d j) time ≡ true) [
@@ -255,17 +255,17 @@ one_more_is_noted keys more c d h ops op i grow at here others all =
           (others j (λ same. true≢false (sym (eq-eqb j i same) ∙ t))) ∙ e
     ] refl
 
-    new : IsNoted more d op
+    new : IsTracked more d op
     new = record {
       number = i;
       key = at;
       time = ap (λ (ps : Spans). is_in_spans ps (op_time op)) here
-          ∙ noted_times_are_in c.near (spans_of c i) (op_time op);
+          ∙ tracked_times_are_in c.near (spans_of c i) (op_time op);
     }
 
-pub unchanging_needs_no_note : UnchangingNeedsNoNote
-unchanging_needs_no_note keys more c d h ops op grow same none all =
-    more_noted keys more c d op grow (λ j time e. ap (λ (ps : Spans). is_in_spans ps time) (same j) ∙ e) ops h
+pub unchanging_needs_no_tracking : UnchangingNeedsNoTracking
+unchanging_needs_no_tracking keys more c d h ops op grow same none all =
+    more_tracked keys more c d op grow (λ j time e. ap (λ (ps : Spans). is_in_spans ps time) (same j) ∙ e) ops h
     (inr none) all
 
 -- ---- operations that are covered
@@ -280,10 +280,10 @@ found test (x ∷ series) own among e = ⊎_elim
     (λ later. or_right (test x) (list_any test series) (found test series own later e))
     (Contains-append_cases (x ∷ []) series own among)
 
-pub noted_operations_are_covered : NotedOperationsAreCovered
-noted_operations_are_covered keys c series h ops are all = go ops h all
+pub tracked_operations_are_covered : TrackedOperationsAreCovered
+tracked_operations_are_covered keys c series h ops are all = go ops h all
   where
-    one : (op : Op) → IsNoted keys c op → is_covered series op ≡ true
+    one : (op : Op) → IsTracked keys c op → is_covered series op ≡ true
     one op is =
         let own : ChangedSeries = record { key = op_key op; spans = spans_of c is.number } in
         found (λ x. is_op_in x op) series own
@@ -295,6 +295,6 @@ noted_operations_are_covered keys c series h ops are all = go ops h all
         (and_from (pointwise nat_eq (op_key op) (op_key op)) (is_in_spans (spans_of c is.number) (op_time op))
         ((bytes_decides (op_key op) (op_key op)).1 refl) is.time)
 
-    go : (os : List Op) (h : ReplicaState) → AreNoted keys c h os → AreCovered series h os
+    go : (os : List Op) (h : ReplicaState) → AreTracked keys c h os → AreCovered series h os
     go [] h all = tt
     go (op ∷ os) h all = (⊎_elim (λ is. inl (one op is)) (λ same. inr same) all.0, go os (step h op) all.1)

@@ -14,43 +14,43 @@ use Rattle.rr_changes.specs.declared.changed_series.ChangedSeries.{ChangedSeries
 use Rattle.rr_changes.specs.declared.span.Spans.{Spans}
 use Rattle.rr_changes.specs.Updates.{GoesOn, IsUpdate, op_time}
 use Rattle.rr_changes.specs.Spans.{is_in_spans, with_time}
-use Rattle.rr_changes.specs.Tracking.{ChangedState, AreChangedSeries, AreNoted, spans_of}
+use Rattle.rr_changes.specs.Tracking.{ChangedState, AreChangedSeries, AreTracked, spans_of}
 use Rattle.rr_changes.specs.Changes.{AreBatches, AreCovered, changes_among, is_within}
 
 -- ---- spans
 
--- a time that is noted is in the spans
-abbrev pub NotedTimesAreIn : Type 0
-NotedTimesAreIn = (near : ℕ) (ps : Spans) (time : ℤ) → is_in_spans (with_time near ps time) time ≡ true
+-- a time that is tracked is in the spans
+abbrev pub TrackedTimesAreIn : Type 0
+TrackedTimesAreIn = (near : ℕ) (ps : Spans) (time : ℤ) → is_in_spans (with_time near ps time) time ≡ true
 
 -- and so are all that were
 abbrev pub TimesStayIn : Type 0
 TimesStayIn = (near : ℕ) (ps : Spans) (time other : ℤ) → is_in_spans ps other ≡ true
     → is_in_spans (with_time near ps time) other ≡ true
 
--- ---- operations that are noted
+-- ---- operations that are tracked
 
--- with one more, which is noted, and keys that grow, they are noted still
-abbrev pub OneMoreIsNoted : Type 0
-OneMoreIsNoted =
+-- with one more, which is tracked, and keys that grow, they are tracked still
+abbrev pub OneMoreIsTracked : Type 0
+OneMoreIsTracked =
     (keys more : List (List ℕ)) (c d : ChangedState) (h : ReplicaState) (ops : List Op) (op : Op) (i : ℕ)
     → IsPrefix keys more → slice_get more i ≡ Some (op_key op)
     → spans_of d i ≡ with_time c.near (spans_of c i) (op_time op)
     → ((j : ℕ) → j ≢ i → spans_of d j ≡ spans_of c j)
-    → AreNoted keys c h ops → AreNoted more d h (ops ++ op ∷ [])
+    → AreTracked keys c h ops → AreTracked more d h (ops ++ op ∷ [])
 
--- so they are with one more that changes no cell, which needs no note
-abbrev pub UnchangingNeedsNoNote : Type 0
-UnchangingNeedsNoNote =
+-- so they are with one more that changes no cell, which may be passed over
+abbrev pub UnchangingNeedsNoTracking : Type 0
+UnchangingNeedsNoTracking =
     (keys more : List (List ℕ)) (c d : ChangedState) (h : ReplicaState) (ops : List Op) (op : Op) → IsPrefix keys more
     → ((j : ℕ) → spans_of d j ≡ spans_of c j) → (step (fold step h ops) op).cells ≡ (fold step h ops).cells
-    → AreNoted keys c h ops → AreNoted more d h (ops ++ op ∷ [])
+    → AreTracked keys c h ops → AreTracked more d h (ops ++ op ∷ [])
 
--- operations that are noted are covered by the list of changed series
-abbrev pub NotedOperationsAreCovered : Type 0
-NotedOperationsAreCovered =
+-- operations that are tracked are covered by the list of changed series
+abbrev pub TrackedOperationsAreCovered : Type 0
+TrackedOperationsAreCovered =
     (keys : List (List ℕ)) (c : ChangedState) (series : List ChangedSeries) (h : ReplicaState) (ops : List Op)
-    → AreChangedSeries keys c.spans series → AreNoted keys c h ops → AreCovered series h ops
+    → AreChangedSeries keys c.spans series → AreTracked keys c h ops → AreCovered series h ops
 
 -- ---- cells within spans
 
@@ -84,11 +84,11 @@ BatchesMakeTheCells =
     → AreBatches limit None (changes_among h.schema series (entries (fold step h ops).cells)) batches
     → join_cells h.schema h.cells (flat_map (λ b. b) batches) ≡ (fold step h ops).cells
 
--- so they do where each operation since then is noted, by the number of its series, and these series are asked for
-abbrev pub NotedChangesMakeTheCells : Type 0
-NotedChangesMakeTheCells =
+-- so they do where each operation since then is tracked, by the number of its series, and these series are asked for
+abbrev pub TrackedChangesMakeTheCells : Type 0
+TrackedChangesMakeTheCells =
     (h : ReplicaState) (ops : List Op) (keys : List (List ℕ)) (c : ChangedState) (series : List ChangedSeries)
     (limit : ℕ)
-    (batches : List (List NamedCell)) → GoesOn h → AreNoted keys c h ops → AreChangedSeries keys c.spans series
+    (batches : List (List NamedCell)) → GoesOn h → AreTracked keys c h ops → AreChangedSeries keys c.spans series
     → AreBatches limit None (changes_among h.schema series (entries (fold step h ops).cells)) batches
     → join_cells h.schema h.cells (flat_map (λ b. b) batches) ≡ (fold step h ops).cells

@@ -29,7 +29,7 @@ spans_at spans i = unwrap_or (slice_get spans i) UNCHANGED
 abbrev pub spans_of : ChangedState → ℕ → Spans
 spans_of c i = spans_at c.spans i
 
--- a change of the series with a number can be noted
+-- a change of the series with a number can be tracked
 pub record HasRoom (c : ChangedState) (i : ℕ) : Type 0 where
   pub place : i < length c.spans
   pub listing : 0 < c.room
@@ -87,13 +87,14 @@ pub record AreByKey (keys : List (List ℕ)) (spans : List Spans) (entries : Lis
 
 -- ---- operations
 
--- an operation is noted, by the number of its series
-pub record IsNoted (keys : List (List ℕ)) (c : ChangedState) (op : Op) : Type 0 where
+-- an operation is tracked: its time is in the spans at the number of its series
+pub record IsTracked (keys : List (List ℕ)) (c : ChangedState) (op : Op) : Type 0 where
   pub number : ℕ
   pub key : slice_get keys number ≡ Some (op_key op)
   pub time : is_in_spans (spans_of c number) (op_time op) ≡ true
 
--- each of these is noted, or changes no cell of the replica where its turn comes
-abbrev pub AreNoted : List (List ℕ) → ChangedState → ReplicaState → List Op → Type 0
-AreNoted keys c h [] = Unit {0}
-AreNoted keys c h (op ∷ ops) = (IsNoted keys c op ⊎ ((step h op).cells ≡ h.cells)) × AreNoted keys c (step h op) ops
+-- each of these is tracked, or changes no cell of the replica where its turn comes
+abbrev pub AreTracked : List (List ℕ) → ChangedState → ReplicaState → List Op → Type 0
+AreTracked keys c h [] = Unit {0}
+AreTracked keys c h (op ∷ ops) =
+    (IsTracked keys c op ⊎ ((step h op).cells ≡ h.cells)) × AreTracked keys c (step h op) ops

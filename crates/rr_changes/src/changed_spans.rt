@@ -93,7 +93,7 @@ impl ChangedSpans {
     #[inline(always)]
     pub fn note(&mut self, series: usize, time: i64)
         requires { HasRoom self.old series }
-        ensures noted { spans_of self.new series
+        ensures widened { spans_of self.new series
             ≡ with_time self.old.near (spans_of self.old series) time }
         ensures others { (i : ℕ) → i ≢ series → spans_of self.new i ≡ spans_of self.old i }
         ensures near { self.new.near ≡ self.old.near }

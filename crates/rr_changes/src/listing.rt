@@ -144,8 +144,8 @@ fn list_series<A: Cells>(
     Ok(())
 }
 
-/// Adds the cells of series within their spans, in order and up to the limit. The keys of the series
-/// strictly ascend.
+/// Adds the cells of series within their spans, in order and up to the limit. The keys of the
+/// series strictly ascend.
 fn list_all<A: Cells>(
     query: &Query<'_, A>,
     series: &[ChangedSeries],

@@ -1,15 +1,15 @@
 //! Spans, and the changes within them.
-ghost use Rattle.rr_changes.specs.ChangeLaws.{NotedTimesAreIn, TimesStayIn, OneMoreIsNoted, UnchangingNeedsNoNote, NotedOperationsAreCovered, CoveredCellsAreAnUpdate, CoveredCellsMakeTheCells, BatchesAreTheWhole, BatchesMakeTheCells, NotedChangesMakeTheCells};
+ghost use Rattle.rr_changes.specs.ChangeLaws.{TrackedTimesAreIn, TimesStayIn, OneMoreIsTracked, UnchangingNeedsNoTracking, TrackedOperationsAreCovered, CoveredCellsAreAnUpdate, CoveredCellsMakeTheCells, BatchesAreTheWhole, BatchesMakeTheCells, TrackedChangesMakeTheCells};
 
-/// A time that is noted is in the spans of its series, and stays there. So operations that are noted
-/// as they come, by the numbers of their series, are covered by the list of changed series; one that
-/// changes no cell needs no note.
-pub fn noted_operations_are_covered()
-    ensures noted { NotedTimesAreIn }
+/// A time that is noted is in the spans of its series, and stays there. So operations that are
+/// tracked as they come, by the numbers of their series, are covered by the list of changed series;
+/// one that changes no cell may be passed over.
+pub fn tracked_operations_are_covered()
+    ensures times { TrackedTimesAreIn }
     ensures stay { TimesStayIn }
-    ensures one_more { OneMoreIsNoted }
-    ensures unchanging { UnchangingNeedsNoNote }
-    ensures covered { NotedOperationsAreCovered }
+    ensures one_more { OneMoreIsTracked }
+    ensures unchanging { UnchangingNeedsNoTracking }
+    ensures covered { TrackedOperationsAreCovered }
 {}
 
 /// The cells within spans that cover all operations since a moment are an update since then:
@@ -19,5 +19,5 @@ pub fn covered_cells_are_an_update()
     ensures makes { CoveredCellsMakeTheCells }
     ensures whole { BatchesAreTheWhole }
     ensures batches { BatchesMakeTheCells }
-    ensures noted { NotedChangesMakeTheCells }
+    ensures tracked { TrackedChangesMakeTheCells }
 {}

@@ -18,8 +18,8 @@ invariant_of-self c =
     subst (λ (l : List ℕ). AreListed (set a.spans.items i c.with_time.result) l) listed
     (listed_too a.spans.items a.changed.items i c.with_time.result c.self.invariant within moves)
 
-pub returns-clause-noted : goal.returns-clause-noted
-returns-clause-noted c =
+pub returns-clause-widened : goal.returns-clause-widened
+returns-clause-widened c =
     let a = c.self.inside in
     let i = c.args.series in
     let within : i < length a.spans.items = search rules in

@@ -1,4 +1,4 @@
-use Rattle.rr_changes.proofs.BatchLemmas.{batches_are_the_whole, batches_make_the_cells, noted_changes_make_the_cells}
+use Rattle.rr_changes.proofs.BatchLemmas.{batches_are_the_whole, batches_make_the_cells, tracked_changes_make_the_cells}
 use Rattle.rr_changes.proofs.CoveredLemmas.{covered_cells_are_an_update, covered_cells_make_the_cells}
 use Rattle.rr_changes.proofs.laws.changes.covered_cells_are_an_update.Goals as goal
 
@@ -8,5 +8,5 @@ returns c = record {
   makes = covered_cells_make_the_cells;
   whole = batches_are_the_whole;
   batches = batches_make_the_cells;
-  noted = noted_changes_make_the_cells;
+  tracked = tracked_changes_make_the_cells;
 }
