@@ -1,5 +1,5 @@
 -- The cells in the slots of spans that cover all operations.
-use Rattle.std.proofs.Common.{◌≡◌, ℕ, zero, suc, ◌≤◌, ◌*◌, ◌/◌, ℤ, pos, negsuc, Bool, true, false, cond, List, [], ◌∷◌, fold, sym, ap, ◌∙◌, subst, arith, true≢false, Option, Some, None, is_some, ⊎_elim, ◌⊎◌, inl, inr}
+use Rattle.std.proofs.Common.{◌≡◌, ℕ, zero, suc, ◌≤◌, ◌*◌, ◌/◌, ℤ, pos, negsuc, Bool, true, false, cond, List, [], ◌∷◌, fold, refl, sym, ap, ◌∙◌, subst, arith, true≢false, Option, Some, None, is_some, ⊎_elim, ◌⊎◌, inl, inr}
 use Rattle.std.specs.Prelude.{int_le, nat_eq}
 use Rattle.std.specs.Int.{int_div_euclid}
 use Rattle.std.specs.Cmp.Lexicographic.{pointwise}
@@ -25,11 +25,11 @@ use Rattle.rr_cells.proofs.Orders.{cell_name_cmp_total, cell_name_cmp-IsAntisymm
 use Rattle.rr_changes.specs.declared.changed_series.ChangedSeries.{ChangedSeries}
 use Rattle.rr_changes.specs.declared.span.Span.{Span}
 use Rattle.rr_changes.specs.declared.span.Spans.{Spans}
-use Rattle.rr_changes.specs.Updates.{GoesOn, IsPlaceOf, op_time}
+use Rattle.rr_changes.specs.Updates.{AreWrites, GoesOn, IsPlaceOf, op_time}
 use Rattle.rr_changes.specs.Spans.{is_in_span, is_in_spans}
-use Rattle.rr_changes.specs.Changes.{AreCovered, is_cell_in, is_covered, is_op_in, is_slot_in_span, is_slot_in_spans, is_within}
-use Rattle.rr_changes.specs.ChangeLaws.{CoveredCellsAreAnUpdate, CoveredCellsMakeTheCells}
-use Rattle.rr_changes.proofs.AddingLemmas.{step_goes_on, step_places, operations_only_add}
+use Rattle.rr_changes.specs.Changes.{AreCovered, is_cell_in, is_covered, is_op_in, is_slot_in_span, is_slot_in_spans, is_within, writes_of}
+use Rattle.rr_changes.specs.ChangeLaws.{CoveredCellsAreAnUpdate, CoveredCellsMakeTheCells, PeriodsAreWrites}
+use Rattle.rr_changes.proofs.AddingLemmas.{operations_go_on, step_goes_on, step_places, operations_only_add}
 use Rattle.rr_changes.proofs.HoldingLemmas.{update_makes_the_cells}
 
 -- ---- a later time is in no earlier slot
@@ -140,3 +140,19 @@ covered_cells_make_the_cells h ops series goes covered =
     ∙ join_goes_by_cells s h.cells update goes.layout goes.live
     ∙ update_makes_the_cells s h.cells m update goes.layout (operations_only_add h ops goes)
     (covered_cells_are_an_update h ops series goes covered)
+
+-- ---- one write after the other
+
+steps_schema : (ops : List Op) (h : ReplicaState) → (fold step h ops).schema ≡ h.schema
+steps_schema [] h = refl
+steps_schema (op ∷ ops) h = steps_schema ops (step h op) ∙ step-schema h op
+
+pub periods_are_writes : PeriodsAreWrites
+periods_are_writes h [] goes are = tt
+periods_are_writes h (p ∷ later) goes are =
+    let after = fold step h p.ops in (
+      operations_only_add h p.ops goes,
+      covered_cells_are_an_update h p.ops p.series goes are.0,
+      subst (λ s. AreWrites s after.cells (writes_of after later)) (steps_schema p.ops h)
+          (periods_are_writes after later (operations_go_on h p.ops goes) are.1),
+    )

@@ -12,10 +12,10 @@ use Rattle.rr_cells.specs.Operations.{op_key, step}
 use Rattle.rr_delta.specs.Summaries.{cells_after}
 use Rattle.rr_changes.specs.declared.changed_series.ChangedSeries.{ChangedSeries}
 use Rattle.rr_changes.specs.declared.span.Spans.{Spans}
-use Rattle.rr_changes.specs.Updates.{GoesOn, IsUpdate, op_time}
+use Rattle.rr_changes.specs.Updates.{AreWrites, GoesOn, IsUpdate, op_time}
 use Rattle.rr_changes.specs.Spans.{is_in_spans, with_time}
 use Rattle.rr_changes.specs.Tracking.{ChangedState, AreChangedSeries, AreTracked, spans_of}
-use Rattle.rr_changes.specs.Changes.{AreBatches, AreCovered, changes_among, is_within}
+use Rattle.rr_changes.specs.Changes.{AreBatches, AreCovered, ArePeriods, Period, changes_among, is_within, writes_of}
 
 -- ---- spans
 
@@ -68,6 +68,11 @@ CoveredCellsMakeTheCells =
     → AreCovered series h ops
     → join_cells h.schema h.cells (changes_among h.schema series (entries (fold step h ops).cells))
     ≡ (fold step h ops).cells
+
+-- so what is written at the end of each period are writes, one after the other
+abbrev pub PeriodsAreWrites : Type 0
+PeriodsAreWrites = (h : ReplicaState) (periods : List Period) → GoesOn h → ArePeriods h periods
+    → AreWrites h.schema h.cells (writes_of h periods)
 
 -- batches, each after the one before, are the whole list
 abbrev pub BatchesAreTheWhole : Type 0

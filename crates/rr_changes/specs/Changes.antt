@@ -1,7 +1,8 @@
 -- The cells of changed series that are in the slots of their spans, a number of them at a time.
-use Rattle.std.specs.Prelude.{◌≡◌, ◌⊎◌, ℕ, ℤ, ◌-◌, int_le, nat_eq, nat_lt, All, Bool, true, MatchBool, ◌&&◌, ◌||◌, List, [], ◌∷◌, ◌++◌, length, take, if◌then◌else◌, Option, Some, None}
+use Rattle.std.specs.Prelude.{◌≡◌, ◌⊎◌, ℕ, ℤ, ◌-◌, int_le, nat_eq, nat_lt, All, Bool, true, MatchBool, ◌&&◌, ◌||◌, List, [], ◌∷◌, ◌++◌, fold, length, take, if◌then◌else◌, Option, Some, None}
 use Rattle.std.specs.Borrow.{Bor}
 use Rattle.std.specs.Cmp.Lexicographic.{pointwise, slice_cmp}
+use Rattle.std.specs.FinMap.{retain_keys}
 use Rattle.std.specs.List.{filter, list_any}
 use Rattle.std.specs.Option.{option_map}
 use Rattle.std.specs.Ordering.{is_gt, is_lt, nat_cmp, int_cmp, ordering_then}
@@ -21,7 +22,7 @@ use Rattle.rr_changes.specs.declared.slots.Slots as source
 use Rattle.rr_changes.specs.declared.span.Span.{Span}
 use Rattle.rr_changes.specs.declared.span.Spans.{Spans}
 use Rattle.rr_changes.specs.Spans.{is_in_spans}
-use Rattle.rr_changes.specs.Updates.{op_time}
+use Rattle.rr_changes.specs.Updates.{Write, op_time}
 
 -- ---- cells within spans
 
@@ -59,6 +60,26 @@ abbrev pub AreCovered : List ChangedSeries → ReplicaState → List Op → Type
 AreCovered series h [] = Unit {0}
 AreCovered series h (op ∷ ops) =
     ((is_covered series op ≡ true) ⊎ ((step h op).cells ≡ h.cells)) × AreCovered series (step h op) ops
+
+-- ---- one write after the other
+
+-- the operations from one write to the next, and the series that have changed then
+pub record Period : Type 0 where
+  pub ops : List Op
+  pub series : List ChangedSeries
+
+-- the operations of each are covered by its series
+abbrev pub ArePeriods : ReplicaState → List Period → Type 0
+ArePeriods h [] = Unit {0}
+ArePeriods h (p ∷ later) = AreCovered p.series h p.ops × ArePeriods (fold step h p.ops) later
+
+-- at the end of each the cells within the spans are written
+abbrev pub writes_of : ReplicaState → List Period → List Write
+writes_of h [] = []
+writes_of h (p ∷ later) = record {
+  cells = (fold step h p.ops).cells;
+  update = retain_keys (fold step h p.ops).cells (is_within h.schema p.series);
+} ∷ writes_of (fold step h p.ops) later
 
 -- ---- a number of cells at a time
 
