@@ -259,6 +259,29 @@ all_before key n series all = All-from_recursion (λ own. bytes_cmp own.key key 
       go n series (λ k d low lt. all (suc k) d (omega arith) (omega arith)),
     )
 
+pub others_after : (key : List ℕ) (n : ℕ) (series : List ChangedSeries)
+    → AllWithin (λ own. is_lt (bytes_cmp own.key key) ≡ false) series n (length series)
+    → All (λ own. is_lt (bytes_cmp own.key key) ≡ false) (drop n series)
+others_after key n series all = All-from_recursion (λ own. is_lt (bytes_cmp own.key key) ≡ false) (drop n series)
+    (go n series all)
+  where
+    every : (series : List ChangedSeries)
+        → AllWithin (λ own. is_lt (bytes_cmp own.key key) ≡ false) series 0 (length series)
+        → AllByRecursion (λ own. is_lt (bytes_cmp own.key key) ≡ false) series
+    every [] all = tt
+    every (own ∷ series) all = (
+      all 0 own (omega arith) (omega arith),
+      every series (λ k d low lt. all (suc k) d (omega arith) (omega arith)),
+    )
+
+    go : (n : ℕ) (series : List ChangedSeries)
+        → AllWithin (λ own. is_lt (bytes_cmp own.key key) ≡ false) series n (length series)
+        → AllByRecursion (λ own. is_lt (bytes_cmp own.key key) ≡ false) (drop n series)
+    go zero [] all = tt
+    go zero (own ∷ series) all = every (own ∷ series) all
+    go (suc n) [] all = tt
+    go (suc n) (own ∷ series) all = go n series (λ k d low lt. all (suc k) d (omega arith) (omega arith))
+
 -- those from one on, as a slice of all
 pub sliced : (series : List ChangedSeries) (k : ℕ) → take (length series - k) (drop k series) ≡ drop k series
 sliced series k = take_all (length series - k) (drop k series) (omega (arith, length-drop k series))

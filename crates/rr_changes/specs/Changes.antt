@@ -1,5 +1,5 @@
 -- The cells of changed series that are in the slots of their spans, a number of them at a time.
-use Rattle.std.specs.Prelude.{◌≡◌, ◌⊎◌, ℕ, ℤ, ◌-◌, int_le, nat_eq, nat_lt, All, Bool, true, MatchBool, ◌&&◌, ◌||◌, List, [], ◌∷◌, ◌++◌, fold, length, take, if◌then◌else◌, Option, Some, None}
+use Rattle.std.specs.Prelude.{◌≡◌, ◌⊎◌, ℕ, ℤ, ◌-◌, int_le, nat_eq, nat_lt, All, Bool, true, false, MatchBool, ◌&&◌, ◌||◌, List, [], ◌∷◌, ◌++◌, fold, length, take, if◌then◌else◌, Option, Some, None}
 use Rattle.std.specs.Borrow.{Bor}
 use Rattle.std.specs.Cmp.Lexicographic.{pointwise, slice_cmp}
 use Rattle.std.specs.FinMap.{retain_keys}
@@ -161,3 +161,8 @@ up_to limit es more = es ++ take (limit - length es) more
 abbrev pub AreBeforeName : Option CellName → List ChangedSeries → Type 0
 AreBeforeName None series = series ≡ []
 AreBeforeName (Some n) series = All (λ own. bytes_cmp own.key n.key ≡ Less) series
+
+-- the key of none of these series is before that of a name
+abbrev pub NoneIsBeforeName : Option CellName → List ChangedSeries → Type 0
+NoneIsBeforeName None series = Unit {0}
+NoneIsBeforeName (Some n) series = All (λ own. is_lt (bytes_cmp own.key n.key) ≡ false) series

@@ -1,5 +1,5 @@
 //! The cells within spans, a number of them at a time.
-ghost use Rattle.std.specs.Prelude.{◌≡◌, ◌<◌, ◌≤◌, IfOk, OnOk, length, map, take, vec_len};
+ghost use Rattle.std.specs.Prelude.{◌≡◌, ◌<◌, ◌≤◌, IfOk, OnOk, drop, length, map, take, vec_len};
 ghost use Rattle.std.specs.FinMap.{entries};
 ghost use Rattle.std.specs.List.{filter};
 ghost use Rattle.std.specs.Option.{option_map};
@@ -8,7 +8,7 @@ ghost use Rattle.rr_cells.specs.Listing.{owned_cell, seen_cell};
 ghost use Rattle.rr_delta.specs.Listed.{ListsCells};
 ghost use Rattle.rr_delta.specs.Summaries.{cells_after, cells_from};
 ghost use Rattle.rr_changes.specs.Tracking.{AreInOrder};
-ghost use Rattle.rr_changes.specs.Changes.{AreBeforeName, changes_among, is_cell_in, is_cell_in_archive, is_in_slots, name_in, next_of, seen_slots, up_to};
+ghost use Rattle.rr_changes.specs.Changes.{AreBeforeName, NoneIsBeforeName, changes_among, is_cell_in, is_cell_in_archive, is_in_slots, name_in, next_of, seen_slots, up_to};
 
 use crate::changed_series::ChangedSeries;
 use crate::slots::Slots;
@@ -170,6 +170,7 @@ fn count_before(series: &[ChangedSeries], after: Option<&Cell>) -> usize
     requires { AreInOrder series.now }
     ensures bound { result ≤ length series.now }
     ensures before { AreBeforeName (name_in after.entry) (take result series.now) }
+    ensures others { NoneIsBeforeName (name_in after.entry) (drop result series.now) }
 {
     match after {
         Some(cell) => series.partition_point(|own| own.key < cell.key),
