@@ -1,4 +1,4 @@
--- The cells in the slots of spans that cover all operations.
+-- The cells in the slots of ranges that cover all operations.
 use Rattle.std.proofs.Common.{◌≡◌, ℕ, zero, suc, ◌≤◌, ◌*◌, ◌/◌, ℤ, pos, negsuc, Bool, true, false, cond, List, [], ◌∷◌, fold, refl, sym, ap, ◌∙◌, subst, arith, true≢false, Option, Some, None, is_some, ⊎_elim, ◌⊎◌, inl, inr}
 use Rattle.std.specs.Prelude.{int_le, nat_eq}
 use Rattle.std.specs.Int.{int_div_euclid}
@@ -23,11 +23,11 @@ use Rattle.rr_cells.proofs.CellByCell.{join_goes_by_cells}
 use Rattle.rr_cells.proofs.OperationsLemmas.{step-schema}
 use Rattle.rr_cells.proofs.Orders.{cell_name_cmp_total, cell_name_cmp-IsAntisymmetric}
 use Rattle.rr_changes.specs.declared.changed_series.ChangedSeries.{ChangedSeries}
-use Rattle.rr_changes.specs.declared.span.Span.{Span}
-use Rattle.rr_changes.specs.declared.span.Spans.{Spans}
+use Rattle.rr_changes.specs.declared.time_range.TimeRange.{TimeRange}
+use Rattle.rr_changes.specs.declared.time_range.ChangeTimes.{ChangeTimes}
 use Rattle.rr_changes.specs.Updates.{AreWrites, GoesOn, IsPlaceOf, op_time}
-use Rattle.rr_changes.specs.Spans.{is_in_span, is_in_spans}
-use Rattle.rr_changes.specs.Changes.{AreCovered, is_cell_in, is_covered, is_op_in, is_slot_in_span, is_slot_in_spans, is_within, writes_of}
+use Rattle.rr_changes.specs.ChangeTimes.{is_in_range, is_in_times}
+use Rattle.rr_changes.specs.Changes.{AreCovered, is_cell_in, is_covered, is_op_in, is_slot_in_range, is_slot_in_times, is_within, writes_of}
 use Rattle.rr_changes.specs.ChangeLaws.{CoveredCellsAreAnUpdate, CoveredCellsMakeTheCells, PeriodsAreWrites}
 use Rattle.rr_changes.proofs.AddingLemmas.{operations_go_on, step_goes_on, step_places, operations_only_add}
 use Rattle.rr_changes.proofs.HoldingLemmas.{update_makes_the_cells}
@@ -50,10 +50,10 @@ slot_rises : (s : Layout) (archive : ℕ) (a b : ℤ) → int_le a b ≡ true
     → int_le (slot_of s archive a) (slot_of s archive b) ≡ true
 slot_rises s archive a b le = quotient_rises a b (span s archive * 1_000_000_000) le
 
--- the slot of a time in a span is one of the span's
-slot_in_span : (s : Layout) (archive : ℕ) (p : Span) (time : ℤ) → is_in_span p time ≡ true
-    → is_slot_in_span s archive p (slot_of s archive time) ≡ true
-slot_in_span s archive p time e =
+-- the slot of a time in a range is one of the range's
+slot_in_range : (s : Layout) (archive : ℕ) (p : TimeRange) (time : ℤ) → is_in_range p time ≡ true
+    → is_slot_in_range s archive p (slot_of s archive time) ≡ true
+slot_in_range s archive p time e =
     let from = int_le p.first time in
     let to = int_le time p.last in
     and_from (int_le (slot_of s archive p.first) (slot_of s archive time))
@@ -61,26 +61,26 @@ slot_in_span s archive p time e =
     (slot_rises s archive p.first time (and_first from to e))
     (slot_rises s archive time p.last (and_second from to e))
 
-slot_in_spans : (s : Layout) (archive : ℕ) (ps : Spans) (time : ℤ) → is_in_spans ps time ≡ true
-    → is_slot_in_spans s archive ps (slot_of s archive time) ≡ true
-slot_in_spans s archive ps time e =
+slot_in_times : (s : Layout) (archive : ℕ) (ps : ChangeTimes) (time : ℤ) → is_in_times ps time ≡ true
+    → is_slot_in_times s archive ps (slot_of s archive time) ≡ true
+slot_in_times s archive ps time e =
     let slot = slot_of s archive time in
-    either_case (is_in_span ps.recent time) (is_in_span ps.late time) e
-    (λ recent. or_left (is_slot_in_span s archive ps.recent slot) (is_slot_in_span s archive ps.late slot)
-    (slot_in_span s archive ps.recent time recent))
-    (λ late. or_right (is_slot_in_span s archive ps.recent slot) (is_slot_in_span s archive ps.late slot)
-    (slot_in_span s archive ps.late time late))
+    either_case (is_in_range ps.recent time) (is_in_range ps.late time) e
+    (λ recent. or_left (is_slot_in_range s archive ps.recent slot) (is_slot_in_range s archive ps.late slot)
+    (slot_in_range s archive ps.recent time recent))
+    (λ late. or_right (is_slot_in_range s archive ps.recent slot) (is_slot_in_range s archive ps.late slot)
+    (slot_in_range s archive ps.late time late))
 
--- the place of an operation of a series, at a time of its spans, is a cell of the series in a slot of them
+-- the place of an operation of a series, at a time in its ranges, is a cell of the series in a slot of them
 cell_in : (s : Layout) (own : ChangedSeries) (op : Op) (n : CellName) → IsPlaceOf s op n → is_op_in own op ≡ true
     → is_cell_in s own n ≡ true
 cell_in s own op n place e =
     let key = pointwise nat_eq (op_key op) own.key in
-    let times = is_in_spans own.spans (op_time op) in
-    and_from (pointwise nat_eq n.key own.key) (is_slot_in_spans s n.archive own.spans n.slot)
+    let times = is_in_times own.times (op_time op) in
+    and_from (pointwise nat_eq n.key own.key) (is_slot_in_times s n.archive own.times n.slot)
     (ap (λ (k : List ℕ). pointwise nat_eq k own.key) place.key ∙ and_first key times e)
-    (ap (is_slot_in_spans s n.archive own.spans) place.slot
-    ∙ slot_in_spans s n.archive own.spans (op_time op) (and_second key times e))
+    (ap (is_slot_in_times s n.archive own.times) place.slot
+    ∙ slot_in_times s n.archive own.times (op_time op) (and_second key times e))
 
 any_too : (p q : ChangedSeries → Bool) (series : List ChangedSeries) → ((own : ChangedSeries) → p own ≡ true
     → q own ≡ true)
@@ -90,7 +90,7 @@ any_too p q (own ∷ series) each e =
     either_case (p own) (list_any p series) e (λ h. or_left (q own) (list_any q series) (each own h))
     (λ h. or_right (q own) (list_any q series) (any_too p q series each h))
 
--- ---- cells within spans
+-- ---- cells within ranges
 
 covered_place : (s : Layout) (series : List ChangedSeries) (op : Op) (n : CellName) → is_covered series op ≡ true
     → IsPlaceOf s op n → is_within s series n ≡ true

@@ -15,9 +15,9 @@ use Rattle.rr_replica.specs.Numbered.{knows}
 use Rattle.rr_replica.proofs.IndexedLemmas.{is_itself}
 use Rattle.rr_replica.proofs.NumberedLemmas.{knows_at}
 use Rattle.rr_changes.specs.declared.changed_series.ChangedSeries.{ChangedSeries}
-use Rattle.rr_changes.specs.declared.span.Spans.{Spans}
-use Rattle.rr_changes.specs.Spans.{is_changed}
-use Rattle.rr_changes.specs.Tracking.{AddsSeries, AreByKey, AreChangedSeries, AreInOrder, AreListed, IsSeriesAt, is_listed, series_of, spans_at, spans_by}
+use Rattle.rr_changes.specs.declared.time_range.ChangeTimes.{ChangeTimes}
+use Rattle.rr_changes.specs.ChangeTimes.{is_changed}
+use Rattle.rr_changes.specs.Tracking.{AddsSeries, AreByKey, AreChangedSeries, AreInOrder, AreListed, IsSeriesAt, is_listed, series_of, times_at, times_by}
 use Rattle.rr_changes.proofs.TrackingLemmas.{listed_cases}
 
 -- ---- keys by number
@@ -66,14 +66,14 @@ key_is key k t = exact_bytes key k (equal (bytes_cmp key k) t)
 -- ---- one series more
 
 -- what an insertion at the key of a number makes
-pub inserted : (keys : List (List ℕ)) (i : ℕ) (own : List ℕ) (ps : Spans) (old new : List (List ℕ × Spans))
+pub inserted : (keys : List (List ℕ)) (i : ℕ) (own : List ℕ) (ps : ChangeTimes) (old new : List (List ℕ × ChangeTimes))
     → slice_get keys i ≡ Some own → knows (take i keys) own ≡ false
-    → ((key : List ℕ) → spans_by new key ≡ cond (is_at (bytes_cmp own) key) (Some ps) (spans_by old key))
+    → ((key : List ℕ) → times_by new key ≡ cond (is_at (bytes_cmp own) key) (Some ps) (times_by old key))
     → IsStrictlySortedBy bytes_cmp (keys_of new) → AddsSeries keys i ps old new
 inserted keys i own ps old new at none updates ordered = record {
-  here = λ key there. subst (λ (k : List ℕ). spans_by new k ≡ Some ps) (same key there)
-      (updates own ∙ ap (λ b. cond b (Some ps) (spans_by old own)) (is_itself own));
-  others = λ key other. updates key ∙ ap (λ b. cond b (Some ps) (spans_by old key))
+  here = λ key there. subst (λ (k : List ℕ). times_by new k ≡ Some ps) (same key there)
+      (updates own ∙ ap (λ b. cond b (Some ps) (times_by old own)) (is_itself own));
+  others = λ key other. updates key ∙ ap (λ b. cond b (Some ps) (times_by old key))
       (false_from_ne_true (is_at (bytes_cmp own) key)
       (λ t. other (at ∙ ap (λ (k : List ℕ). Some k) (key_is own key t))));
   first = λ key there. subst (λ (k : List ℕ). knows (take i keys) k ≡ false) (same key there) none;
@@ -84,21 +84,21 @@ inserted keys i own ps old new at none updates ordered = record {
     same key there = ap (λ o. unwrap_or o own) (sym at ∙ there)
 
 -- the series of these numbers, by their keys
-pub record AreSoFar (keys : List (List ℕ)) (spans : List Spans) (numbers : List ℕ)
-    (entries : List (List ℕ × Spans)) : Type 0 where
-  pub part : (key : List ℕ) (ps : Spans) → spans_by entries key ≡ Some ps
-      → (i : ℕ) × IsSeriesAt keys spans i (series_of (key, ps))
+pub record AreSoFar (keys : List (List ℕ)) (times : List ChangeTimes) (numbers : List ℕ)
+    (entries : List (List ℕ × ChangeTimes)) : Type 0 where
+  pub part : (key : List ℕ) (ps : ChangeTimes) → times_by entries key ≡ Some ps
+      → (i : ℕ) × IsSeriesAt keys times i (series_of (key, ps))
   pub whole : (i : ℕ) (key : List ℕ) → is_listed numbers i ≡ true → slice_get keys i ≡ Some key
-      → spans_by entries key ≡ Some (spans_at spans i)
+      → times_by entries key ≡ Some (times_at times i)
   pub first : (i : ℕ) (key : List ℕ) → is_listed numbers i ≡ true → slice_get keys i ≡ Some key
       → knows (take i keys) key ≡ false
 
-pub one_so_far : (keys : List (List ℕ)) (spans : List Spans) (numbers : List ℕ) (i : ℕ)
-    (old new : List (List ℕ × Spans))
-    → is_changed (spans_at spans i) ≡ true
-    → AddsSeries keys i (spans_at spans i) old new → AreSoFar keys spans numbers old
-    → AreSoFar keys spans (numbers ++ i ∷ []) new
-one_so_far keys spans numbers i old new moves adds were = record {
+pub one_so_far : (keys : List (List ℕ)) (times : List ChangeTimes) (numbers : List ℕ) (i : ℕ)
+    (old new : List (List ℕ × ChangeTimes))
+    → is_changed (times_at times i) ≡ true
+    → AddsSeries keys i (times_at times i) old new → AreSoFar keys times numbers old
+    → AreSoFar keys times (numbers ++ i ∷ []) new
+one_so_far keys times numbers i old new moves adds were = record {
   part = λ key ps e. ⊎_elim
       (λ at. (
         i,
@@ -116,39 +116,39 @@ one_so_far keys spans numbers i old new moves adds were = record {
       (adds.first key (subst (λ k. slice_get keys k ≡ Some key) (sym same) at))) (listed_cases numbers i j e);
 }
   where
-    here : (j : ℕ) (key : List ℕ) → slice_get keys i ≡ Some key → i ≡ j → spans_by new key ≡ Some (spans_at spans j)
-    here j key at same = adds.here key at ∙ ap (λ k. Some (spans_at spans k)) same
+    here : (j : ℕ) (key : List ℕ) → slice_get keys i ≡ Some key → i ≡ j → times_by new key ≡ Some (times_at times j)
+    here j key at same = adds.here key at ∙ ap (λ k. Some (times_at times k)) same
 
     by_number : (j : ℕ) (key : List ℕ) → slice_get keys j ≡ Some key → (is_listed numbers j ≡ true) ⊎ (i ≡ j)
-        → (slice_get keys i ≡ Some key) ⊎ (slice_get keys i ≢ Some key) → spans_by new key ≡ Some (spans_at spans j)
+        → (slice_get keys i ≡ Some key) ⊎ (slice_get keys i ≢ Some key) → times_by new key ≡ Some (times_at times j)
     by_number j key at (inr same) either = here j key (subst (λ k. slice_get keys k ≡ Some key) (sym same) at) same
     by_number j key at (inl was) (inl there) =
         here j key there (same_number keys i j key there at (adds.first key there) (were.first j key was at))
     by_number j key at (inl was) (inr other) = adds.others key other ∙ were.whole j key was at
 
 -- all that have changed
-pub all_so_far : (keys : List (List ℕ)) (spans : List Spans) (changed : List ℕ) (entries : List (List ℕ × Spans))
-    → AreListed spans changed → AreSoFar keys spans changed entries → IsStrictlySortedBy bytes_cmp (keys_of entries)
-    → AreByKey keys spans entries
-all_so_far keys spans changed entries are all ordered = record {
+pub all_so_far : (keys : List (List ℕ)) (times : List ChangeTimes) (changed : List ℕ) (entries : List (List ℕ × ChangeTimes))
+    → AreListed times changed → AreSoFar keys times changed entries → IsStrictlySortedBy bytes_cmp (keys_of entries)
+    → AreByKey keys times entries
+all_so_far keys times changed entries are all ordered = record {
   ordered = ordered;
   part = all.part;
   whole = λ i own is. all.whole i own.key (listed i (is_listed changed i) refl own is) is.key
-      ∙ ap (λ (p : Spans). Some p) is.here;
+      ∙ ap (λ (p : ChangeTimes). Some p) is.here;
 }
   where
-    listed : (i : ℕ) (b : Bool) → is_listed changed i ≡ b → (own : ChangedSeries) → IsSeriesAt keys spans i own
+    listed : (i : ℕ) (b : Bool) → is_listed changed i ≡ b → (own : ChangedSeries) → IsSeriesAt keys times i own
         → is_listed changed i ≡ true
     listed i true t own is = t
     listed i false t own is = absurd (true≢false (sym is.moved ∙ ap is_changed (sym is.here ∙ are.others i t)))
 
 -- ---- as a list
 
-found_in : (entries : List (List ℕ × Spans)) (key : List ℕ) (ps : Spans) → spans_by entries key ≡ Some ps
+found_in : (entries : List (List ℕ × ChangeTimes)) (key : List ℕ) (ps : ChangeTimes) → times_by entries key ≡ Some ps
     → Contains (map series_of entries) (series_of (key, ps))
 found_in [] key ps e = absurd (true≢false (sym (ap is_some e)))
 found_in (x ∷ entries) key ps e = elim (is_at (bytes_cmp key) x.0) as (λ b. is_at (bytes_cmp key) x.0 ≡ b
-    → cond b (Some x.1) (spans_by entries key) ≡ Some ps
+    → cond b (Some x.1) (times_by entries key) ≡ Some ps
     → Contains (series_of x ∷ map series_of entries) (series_of (key, ps))) [
       | true ↦ λ t f.
           let value : x.1 ≡ ps = ap (λ o. unwrap_or o ps) f in
@@ -165,46 +165,46 @@ found_in (x ∷ entries) key ps e = elim (is_at (bytes_cmp key) x.0) as (λ b. i
     later x xs y among = (suc among.0, (let within = among.1 in omega arith), among.2)
 
 -- each entry is found by its key
-all_found : (entries : List (List ℕ × Spans)) → IsStrictlySortedBy bytes_cmp (keys_of entries)
-    → AllByRecursion (λ e. spans_by entries e.0 ≡ Some e.1) entries
+all_found : (entries : List (List ℕ × ChangeTimes)) → IsStrictlySortedBy bytes_cmp (keys_of entries)
+    → AllByRecursion (λ e. times_by entries e.0 ≡ Some e.1) entries
 unfolding IsStrictlySortedBy
 all_found [] order = tt
 all_found (x ∷ entries) order = (
-  ap (λ b. cond b (Some x.1) (spans_by entries x.0)) (is_itself x.0),
+  ap (λ b. cond b (Some x.1) (times_by entries x.0)) (is_itself x.0),
   go entries order.0 (all_found entries order.1),
 )
   where
     after : (key : List ℕ) → bytes_cmp x.0 key ≡ Less → is_at (bytes_cmp key) x.0 ≡ false
     after key less = ap is_eq (nat_list_cmp_total.antisymm key x.0 ∙ ap ordering_reverse less)
 
-    go : (es : List (List ℕ × Spans)) → AllByRecursion (λ k. bytes_cmp x.0 k ≡ Less) (keys_of es)
-        → AllByRecursion (λ e. spans_by entries e.0 ≡ Some e.1) es
-        → AllByRecursion (λ e. spans_by (x ∷ entries) e.0 ≡ Some e.1) es
+    go : (es : List (List ℕ × ChangeTimes)) → AllByRecursion (λ k. bytes_cmp x.0 k ≡ Less) (keys_of es)
+        → AllByRecursion (λ e. times_by entries e.0 ≡ Some e.1) es
+        → AllByRecursion (λ e. times_by (x ∷ entries) e.0 ≡ Some e.1) es
     go [] later found = tt
     go (e ∷ es) later found = (
-      ap (λ b. cond b (Some x.1) (spans_by entries e.0)) (after e.0 later.0) ∙ found.0,
+      ap (λ b. cond b (Some x.1) (times_by entries e.0)) (after e.0 later.0) ∙ found.0,
       go es later.1 found.1,
     )
 
-pub listed_by_key : (keys : List (List ℕ)) (spans : List Spans) (entries : List (List ℕ × Spans))
-    (series : List ChangedSeries) → AreByKey keys spans entries → series ≡ map series_of entries
-    → AreChangedSeries keys spans series
-listed_by_key keys spans entries series by is = subst (AreChangedSeries keys spans) (sym is) (record {
-  part = All-from_recursion (λ own. (i : ℕ) × IsSeriesAt keys spans i own) (map series_of entries)
+pub listed_by_key : (keys : List (List ℕ)) (times : List ChangeTimes) (entries : List (List ℕ × ChangeTimes))
+    (series : List ChangedSeries) → AreByKey keys times entries → series ≡ map series_of entries
+    → AreChangedSeries keys times series
+listed_by_key keys times entries series by is = subst (AreChangedSeries keys times) (sym is) (record {
+  part = All-from_recursion (λ own. (i : ℕ) × IsSeriesAt keys times i own) (map series_of entries)
       (go entries (all_found entries by.ordered));
-  whole = λ i own at. found_in entries own.key own.spans (by.whole i own at);
+  whole = λ i own at. found_in entries own.key own.times (by.whole i own at);
 })
   where
-    go : (es : List (List ℕ × Spans)) → AllByRecursion (λ e. spans_by entries e.0 ≡ Some e.1) es
-        → AllByRecursion (λ own. (i : ℕ) × IsSeriesAt keys spans i own) (map series_of es)
+    go : (es : List (List ℕ × ChangeTimes)) → AllByRecursion (λ e. times_by entries e.0 ≡ Some e.1) es
+        → AllByRecursion (λ own. (i : ℕ) × IsSeriesAt keys times i own) (map series_of es)
     go [] found = tt
     go (e ∷ es) found = (by.part e.0 e.1 found.0, go es found.1)
 
-pub in_order : (entries : List (List ℕ × Spans)) (series : List ChangedSeries)
+pub in_order : (entries : List (List ℕ × ChangeTimes)) (series : List ChangedSeries)
     → IsStrictlySortedBy bytes_cmp (keys_of entries) → series ≡ map series_of entries → AreInOrder series
 in_order entries series ordered is =
     subst (IsStrictlySortedBy bytes_cmp) (sym (ap (map (λ (own : ChangedSeries). own.key)) is ∙ keys entries)) ordered
   where
-    keys : (es : List (List ℕ × Spans)) → map (λ (own : ChangedSeries). own.key) (map series_of es) ≡ keys_of es
+    keys : (es : List (List ℕ × ChangeTimes)) → map (λ (own : ChangedSeries). own.key) (map series_of es) ≡ keys_of es
     keys [] = refl
     keys (e ∷ es) = ap (λ l. e.0 ∷ l) (keys es)

@@ -211,7 +211,7 @@ no_slots p es empty = none_at_all (is_in_slots p) es (λ e. false_from_ne_true (
     empty_is : (a b : ℤ) → int_lt a b ≡ true → int_le b a ≡ false
     empty_is a b h = grind (arith, ints)
 
--- ---- two spans of slots of one archive
+-- ---- two ranges of slots of one archive
 
 -- those that end before the others start come first
 pub slots_apart : (p q : Slots) → p.key ≡ q.key → p.archive ≡ q.archive → int_lt p.last q.first ≡ true

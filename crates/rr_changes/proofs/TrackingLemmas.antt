@@ -1,4 +1,4 @@
--- Spans with a time more, and which series changed.
+-- ChangeTimes with a time more, and which series changed.
 use Rattle.std.proofs.Common.{◌≡◌, ◌≢◌, ℕ, zero, suc, ◌+◌, ◌<◌, ℤ, Bool, true, false, not, ◌&&◌, ◌||◌, List, [], ◌∷◌, ◌++◌, fold, length, drop, set, slice_get, get_or, refl, sym, ap, ◌∙◌, subst, arith, true≢false, Some, is_some, ⊎_elim, ◌⊎◌, inl, inr, add-one}
 use Rattle.std.specs.Prelude.{int_le, int_lt, nat_eq, ◌==◌, Contains, if◌then◌else◌}
 use Rattle.std.specs.Cmp.Lexicographic.{pointwise, bytes_decides}
@@ -15,24 +15,24 @@ use Rattle.rr_cells.specs.declared.op.Op.{Op}
 use Rattle.rr_cells.specs.Operations.{op_key, step}
 use Rattle.rr_cells.specs.ReplicaState.{ReplicaState}
 use Rattle.rr_changes.specs.declared.changed_series.ChangedSeries.{ChangedSeries}
-use Rattle.rr_changes.specs.declared.span.Span.{Span}
-use Rattle.rr_changes.specs.declared.span.Spans.{Spans}
-use Rattle.rr_changes.specs.declared.span.TheConstants.{UNCHANGED}
+use Rattle.rr_changes.specs.declared.time_range.TimeRange.{TimeRange}
+use Rattle.rr_changes.specs.declared.time_range.ChangeTimes.{ChangeTimes}
+use Rattle.rr_changes.specs.declared.time_range.TheConstants.{UNCHANGED}
 use Rattle.rr_changes.specs.Updates.{op_time}
-use Rattle.rr_changes.specs.Spans.{is_changed, is_empty, is_in_span, is_in_spans, is_nearer_recent, widened, with_time}
-use Rattle.rr_changes.specs.Tracking.{AreListed, AreTracked, ChangedState, IsTracked, is_listed, spans_at, spans_of}
+use Rattle.rr_changes.specs.ChangeTimes.{is_changed, is_empty, is_in_range, is_in_times, is_nearer_recent, widened, with_time}
+use Rattle.rr_changes.specs.Tracking.{AreListed, AreTracked, ChangedState, IsTracked, is_listed, times_at, times_of}
 use Rattle.rr_changes.specs.Changes.{AreCovered, is_covered, is_op_in}
 use Rattle.rr_changes.specs.ChangeLaws.{TrackedOperationsAreCovered, TrackedTimesAreIn, OneMoreIsTracked, TimesStayIn, UnchangingNeedsNoTracking}
 
 -- ---- a time more
 
-widened_has : (p : Span) (time : ℤ) → is_in_span (widened p time) time ≡ true
+widened_has : (p : TimeRange) (time : ℤ) → is_in_range (widened p time) time ≡ true
 widened_has p time = here p.first p.last time
   where
     here : (a b t : ℤ) → (int_le (int_min a t) t && int_le t (int_max b t)) ≡ true
     here a b t = grind (arith, ints)
 
-widened_still : (p : Span) (time other : ℤ) → is_in_span p other ≡ true → is_in_span (widened p time) other ≡ true
+widened_still : (p : TimeRange) (time other : ℤ) → is_in_range p other ≡ true → is_in_range (widened p time) other ≡ true
 widened_still p time other e = wider p.first p.last time other e
   where
     wider : (a b t u : ℤ) → (int_le a u && int_le u b) ≡ true
@@ -40,60 +40,60 @@ widened_still p time other e = wider p.first p.last time other e
     wider a b t u e = grind (arith, ints)
 
 pub tracked_times_are_in : TrackedTimesAreIn
-tracked_times_are_in near ps time = elim (is_nearer_recent near ps time) as (λ b. is_in_spans
+tracked_times_are_in near ps time = elim (is_nearer_recent near ps time) as (λ b. is_in_times
     (if b then record { recent = widened ps.recent time; late = ps.late }
     else record { recent = ps.recent; late = widened ps.late time }) time ≡ true) [
-      | true ↦ or_left (is_in_span (widened ps.recent time) time) (is_in_span ps.late time) (widened_has ps.recent time)
-      | false ↦ or_right (is_in_span ps.recent time) (is_in_span (widened ps.late time) time) (widened_has ps.late time)
+      | true ↦ or_left (is_in_range (widened ps.recent time) time) (is_in_range ps.late time) (widened_has ps.recent time)
+      | false ↦ or_right (is_in_range ps.recent time) (is_in_range (widened ps.late time) time) (widened_has ps.late time)
     ]
 
 pub times_stay_in : TimesStayIn
-times_stay_in near ps time other e = elim (is_nearer_recent near ps time) as (λ b. is_in_spans
+times_stay_in near ps time other e = elim (is_nearer_recent near ps time) as (λ b. is_in_times
     (if b then record { recent = widened ps.recent time; late = ps.late }
     else record { recent = ps.recent; late = widened ps.late time }) other ≡ true) [
-      | true ↦ either_case (is_in_span ps.recent other) (is_in_span ps.late other) e
-          (λ h. or_left (is_in_span (widened ps.recent time) other) (is_in_span ps.late other)
+      | true ↦ either_case (is_in_range ps.recent other) (is_in_range ps.late other) e
+          (λ h. or_left (is_in_range (widened ps.recent time) other) (is_in_range ps.late other)
           (widened_still ps.recent time other h))
-          (λ h. or_right (is_in_span (widened ps.recent time) other) (is_in_span ps.late other) h)
-      | false ↦ either_case (is_in_span ps.recent other) (is_in_span ps.late other) e
-          (λ h. or_left (is_in_span ps.recent other) (is_in_span (widened ps.late time) other) h)
-          (λ h. or_right (is_in_span ps.recent other) (is_in_span (widened ps.late time) other)
+          (λ h. or_right (is_in_range (widened ps.recent time) other) (is_in_range ps.late other) h)
+      | false ↦ either_case (is_in_range ps.recent other) (is_in_range ps.late other) e
+          (λ h. or_left (is_in_range ps.recent other) (is_in_range (widened ps.late time) other) h)
+          (λ h. or_right (is_in_range ps.recent other) (is_in_range (widened ps.late time) other)
           (widened_still ps.late time other h))
     ]
 
--- a span that has a time isn't empty
-has_time : (p : Span) (time : ℤ) → is_in_span p time ≡ true → not (is_empty p) ≡ true
+-- a range that has a time isn't empty
+has_time : (p : TimeRange) (time : ℤ) → is_in_range p time ≡ true → not (is_empty p) ≡ true
 has_time p time e = some p.first p.last time e
   where
     some : (a b t : ℤ) → (int_le a t && int_le t b) ≡ true → not (int_lt b a) ≡ true
     some a b t e = grind (arith, ints)
 
-pub changed_there : (ps : Spans) (time : ℤ) → is_in_spans ps time ≡ true → is_changed ps ≡ true
-changed_there ps time e = either_case (is_in_span ps.recent time) (is_in_span ps.late time) e
+pub changed_there : (ps : ChangeTimes) (time : ℤ) → is_in_times ps time ≡ true → is_changed ps ≡ true
+changed_there ps time e = either_case (is_in_range ps.recent time) (is_in_range ps.late time) e
     (λ h. or_left (not (is_empty ps.recent)) (not (is_empty ps.late)) (has_time ps.recent time h))
     (λ h. or_right (not (is_empty ps.recent)) (not (is_empty ps.late)) (has_time ps.late time h))
 
-pub with_time_changed : (near : ℕ) (ps : Spans) (time : ℤ) → is_changed (with_time near ps time) ≡ true
+pub with_time_changed : (near : ℕ) (ps : ChangeTimes) (time : ℤ) → is_changed (with_time near ps time) ≡ true
 with_time_changed near ps time = changed_there (with_time near ps time) time (tracked_times_are_in near ps time)
 
--- ---- spans by number
+-- ---- ranges by number
 
-pub spans_there : (spans : List Spans) (i : ℕ) (d : Spans) → i < length spans → get_or spans i d ≡ spans_at spans i
-spans_there [] i d lt = absurd (omega arith)
-spans_there (q ∷ spans) zero d lt = refl
-spans_there (q ∷ spans) (suc i) d lt = spans_there spans i d (omega arith)
+pub times_there : (times : List ChangeTimes) (i : ℕ) (d : ChangeTimes) → i < length times → get_or times i d ≡ times_at times i
+times_there [] i d lt = absurd (omega arith)
+times_there (q ∷ times) zero d lt = refl
+times_there (q ∷ times) (suc i) d lt = times_there times i d (omega arith)
 
-pub spans_set_here : (spans : List Spans) (i : ℕ) (p : Spans) → i < length spans → spans_at (set spans i p) i ≡ p
-spans_set_here [] i p lt = absurd (omega arith)
-spans_set_here (q ∷ spans) zero p lt = refl
-spans_set_here (q ∷ spans) (suc i) p lt = spans_set_here spans i p (omega arith)
+pub times_set_here : (times : List ChangeTimes) (i : ℕ) (p : ChangeTimes) → i < length times → times_at (set times i p) i ≡ p
+times_set_here [] i p lt = absurd (omega arith)
+times_set_here (q ∷ times) zero p lt = refl
+times_set_here (q ∷ times) (suc i) p lt = times_set_here times i p (omega arith)
 
-pub spans_set_other : (spans : List Spans) (i j : ℕ) (p : Spans) → j ≢ i → spans_at (set spans i p) j ≡ spans_at spans j
-spans_set_other [] i j p ne = refl
-spans_set_other (q ∷ spans) zero zero p ne = absurd (ne refl)
-spans_set_other (q ∷ spans) zero (suc j) p ne = refl
-spans_set_other (q ∷ spans) (suc i) zero p ne = refl
-spans_set_other (q ∷ spans) (suc i) (suc j) p ne = spans_set_other spans i j p (λ e. ne (ap suc e))
+pub times_set_other : (times : List ChangeTimes) (i j : ℕ) (p : ChangeTimes) → j ≢ i → times_at (set times i p) j ≡ times_at times j
+times_set_other [] i j p ne = refl
+times_set_other (q ∷ times) zero zero p ne = absurd (ne refl)
+times_set_other (q ∷ times) zero (suc j) p ne = refl
+times_set_other (q ∷ times) (suc i) zero p ne = refl
+times_set_other (q ∷ times) (suc i) (suc j) p ne = times_set_other times i j p (λ e. ne (ap suc e))
 
 -- ---- the list of changed series
 
@@ -122,43 +122,43 @@ listed_here (j ∷ changed) (suc k) d lt =
     or_right (j == get_or changed k d) (is_listed changed (get_or changed k d)) (listed_here changed k d (omega arith))
 
 -- where none is listed, none has changed, and the other way round
-pub none_listed : (spans : List Spans) (changed : List ℕ) → AreListed spans changed
-    → (changed ≡ [] → (i : ℕ) → spans_at spans i ≡ UNCHANGED) × (((i : ℕ) → spans_at spans i ≡ UNCHANGED)
+pub none_listed : (times : List ChangeTimes) (changed : List ℕ) → AreListed times changed
+    → (changed ≡ [] → (i : ℕ) → times_at times i ≡ UNCHANGED) × (((i : ℕ) → times_at times i ≡ UNCHANGED)
     → changed ≡ [])
-none_listed spans [] are = ((λ none i. are.others i refl), (λ all. refl))
-none_listed spans (j ∷ changed) are = (
+none_listed times [] are = ((λ none i. are.others i refl), (λ all. refl))
+none_listed times (j ∷ changed) are = (
   (λ none. absurd cc),
   (λ all. absurd (true≢false (sym (are.moved j (listed_here (j ∷ changed) zero 0 (omega arith)))
       ∙ ap is_changed (all j)))),
 )
 
 -- a change of a series, which is then listed
-pub listed_too : (spans : List Spans) (changed : List ℕ) (i : ℕ) (p : Spans) → AreListed spans changed
-    → i < length spans
+pub listed_too : (times : List ChangeTimes) (changed : List ℕ) (i : ℕ) (p : ChangeTimes) → AreListed times changed
+    → i < length times
     → is_changed p ≡ true
-    → AreListed (set spans i p) (if is_changed (spans_at spans i) then changed else changed ++ i ∷ [])
-listed_too spans changed i p are lt moves = by_case (is_changed (spans_at spans i)) refl
+    → AreListed (set times i p) (if is_changed (times_at times i) then changed else changed ++ i ∷ [])
+listed_too times changed i p are lt moves = by_case (is_changed (times_at times i)) refl
   where
-    long : length (set spans i p) ≡ length spans
-    long = length-set spans i p
+    long : length (set times i p) ≡ length times
+    long = length-set times i p
 
-    moved_too : (j : ℕ) → (is_listed changed j ≡ true) ⊎ (i ≡ j) → is_changed (spans_at (set spans i p) j) ≡ true
-    moved_too j either = elim (j == i) as (λ b. (j == i) ≡ b → is_changed (spans_at (set spans i p) j) ≡ true) [
-      | true ↦ λ t. subst (λ k. is_changed (spans_at (set spans i p) k) ≡ true) (sym (eqb-true j i t))
-          (ap is_changed (spans_set_here spans i p lt) ∙ moves)
+    moved_too : (j : ℕ) → (is_listed changed j ≡ true) ⊎ (i ≡ j) → is_changed (times_at (set times i p) j) ≡ true
+    moved_too j either = elim (j == i) as (λ b. (j == i) ≡ b → is_changed (times_at (set times i p) j) ≡ true) [
+      | true ↦ λ t. subst (λ k. is_changed (times_at (set times i p) k) ≡ true) (sym (eqb-true j i t))
+          (ap is_changed (times_set_here times i p lt) ∙ moves)
       | false ↦ λ t.
           let other : j ≢ i = λ same. true≢false (sym (eq-eqb j i same) ∙ t) in
-          ap is_changed (spans_set_other spans i j p other)
+          ap is_changed (times_set_other times i j p other)
           ∙ ⊎_elim (λ was. are.moved j was) (λ same. absurd (other (sym same))) either
     ] refl
 
-    by_case : (b : Bool) → is_changed (spans_at spans i) ≡ b
-        → AreListed (set spans i p) (if b then changed else changed ++ i ∷ [])
+    by_case : (b : Bool) → is_changed (times_at times i) ≡ b
+        → AreListed (set times i p) (if b then changed else changed ++ i ∷ [])
     by_case true t = record {
       others = λ j none.
           let here : is_listed changed i ≡ true = is_there (is_listed changed i) refl in
           let other : j ≢ i = λ same. true≢false (sym here ∙ subst (λ k. is_listed changed k ≡ false) same none) in
-          spans_set_other spans i j p other ∙ are.others j none;
+          times_set_other times i j p other ∙ are.others j none;
       within = λ j there. let few = are.within j there in omega (arith, long);
       moved = λ j there. moved_too j (inl there);
     }
@@ -170,7 +170,7 @@ listed_too spans changed i p are lt moves = by_case (is_changed (spans_at spans 
       others = λ j none.
           let other : j ≢ i = λ same. true≢false (sym (listed_last changed i)
           ∙ subst (λ k. is_listed (changed ++ i ∷ []) k ≡ false) same none) in
-          spans_set_other spans i j p other ∙ are.others j (false_from_ne_true (is_listed changed j)
+          times_set_other times i j p other ∙ are.others j (false_from_ne_true (is_listed changed j)
           (λ there. true≢false (sym (listed_still changed i j there) ∙ none)));
       within = λ j there. ⊎_elim (λ was. let few = are.within j was in omega (arith, long))
           (λ same. omega (arith, long)) (listed_cases changed i j there);
@@ -184,19 +184,19 @@ left_at changed k d i lt = ap (λ l. is_listed l i) (drop-cons changed k d lt) �
     || is_listed (drop n changed) i) (sym (add-one k))
 
 -- a series of the list that is forgotten
-pub forgotten : (spans : List Spans) (changed : List ℕ) (k d : ℕ) → k < length changed
-    → get_or changed k d < length spans
-    → ((i : ℕ) → is_listed (drop k changed) i ≡ false → spans_at spans i ≡ UNCHANGED)
+pub forgotten : (times : List ChangeTimes) (changed : List ℕ) (k d : ℕ) → k < length changed
+    → get_or changed k d < length times
+    → ((i : ℕ) → is_listed (drop k changed) i ≡ false → times_at times i ≡ UNCHANGED)
     → (i : ℕ) → is_listed (drop (k + 1) changed) i ≡ false
-    → spans_at (set spans (get_or changed k d) UNCHANGED) i ≡ UNCHANGED
-forgotten spans changed k d lt within left i none =
+    → times_at (set times (get_or changed k d) UNCHANGED) i ≡ UNCHANGED
+forgotten times changed k d lt within left i none =
     let x = get_or changed k d in
-    elim (i == x) as (λ b. (i == x) ≡ b → spans_at (set spans x UNCHANGED) i ≡ UNCHANGED) [
-      | true ↦ λ t. subst (λ j. spans_at (set spans x UNCHANGED) j ≡ UNCHANGED) (sym (eqb-true i x t))
-          (spans_set_here spans x UNCHANGED within)
+    elim (i == x) as (λ b. (i == x) ≡ b → times_at (set times x UNCHANGED) i ≡ UNCHANGED) [
+      | true ↦ λ t. subst (λ j. times_at (set times x UNCHANGED) j ≡ UNCHANGED) (sym (eqb-true i x t))
+          (times_set_here times x UNCHANGED within)
       | false ↦ λ t.
           let other : i ≢ x = λ same. true≢false (sym (eq-eqb i x same) ∙ t) in
-          spans_set_other spans x i UNCHANGED other
+          times_set_other times x i UNCHANGED other
           ∙ left i (left_at changed k d i lt ∙ neither (x == i) (is_listed (drop (k + 1) changed) i)
           (false_from_ne_true (x == i) (λ same. other (sym (eqb-true x i same)))) none)
     ] refl
@@ -205,9 +205,9 @@ forgotten spans changed k d lt within left i none =
     neither true b h k = h
     neither false b h k = k
 
-pub all_within : (spans : List Spans) (changed : List ℕ) (k d : ℕ) → AreListed spans changed → k < length changed
-    → get_or changed k d < length spans
-all_within spans changed k d are lt = are.within (get_or changed k d) (listed_here changed k d lt)
+pub all_within : (times : List ChangeTimes) (changed : List ℕ) (k d : ℕ) → AreListed times changed → k < length changed
+    → get_or changed k d < length times
+all_within times changed k d are lt = are.within (get_or changed k d) (listed_here changed k d lt)
 
 -- ---- operations that are tracked
 
@@ -220,9 +220,9 @@ module _ {A : Type 0} where
       ap (λ (w : A). Some w) (sym same) ∙ at
   prefix_has (z ∷ xs) (y ∷ ys) (suc i) x p at = prefix_has xs ys i x (p.0, cc (p.1)) at
 
--- with keys that grow and spans that widen they are tracked still, and one more is or changes nothing
+-- with keys that grow and ranges that widen they are tracked still, and one more is or changes nothing
 more_tracked : (keys more : List (List ℕ)) (c d : ChangedState) (op : Op) → IsPrefix keys more
-    → ((j : ℕ) (time : ℤ) → is_in_spans (spans_of c j) time ≡ true → is_in_spans (spans_of d j) time ≡ true)
+    → ((j : ℕ) (time : ℤ) → is_in_times (times_of c j) time ≡ true → is_in_times (times_of d j) time ≡ true)
     → (ops : List Op) (h : ReplicaState)
     → IsTracked more d op ⊎ ((step (fold step h ops) op).cells ≡ (fold step h ops).cells)
     → AreTracked keys c h ops → AreTracked more d h (ops ++ op ∷ [])
@@ -243,15 +243,15 @@ pub one_more_is_tracked : OneMoreIsTracked
 one_more_is_tracked keys more c d h ops op i grow at here others all =
     more_tracked keys more c d op grow wider ops h (inl new) all
   where
-    wider : (j : ℕ) (time : ℤ) → is_in_spans (spans_of c j) time ≡ true → is_in_spans (spans_of d j) time ≡ true
-    wider j time e = elim (j == i) as (λ b. (j == i) ≡ b → is_in_spans (spans_of d j) time ≡ true) [
+    wider : (j : ℕ) (time : ℤ) → is_in_times (times_of c j) time ≡ true → is_in_times (times_of d j) time ≡ true
+    wider j time e = elim (j == i) as (λ b. (j == i) ≡ b → is_in_times (times_of d j) time ≡ true) [
       | true ↦ λ t.
           let same : j ≡ i = eqb-true j i t in
-          subst (λ k. is_in_spans (spans_of d k) time ≡ true) (sym same)
-          (ap (λ (ps : Spans). is_in_spans ps time) here
-          ∙ times_stay_in c.near (spans_of c i) (op_time op) time
-          (subst (λ k. is_in_spans (spans_of c k) time ≡ true) same e))
-      | false ↦ λ t. ap (λ (ps : Spans). is_in_spans ps time)
+          subst (λ k. is_in_times (times_of d k) time ≡ true) (sym same)
+          (ap (λ (ps : ChangeTimes). is_in_times ps time) here
+          ∙ times_stay_in c.near (times_of c i) (op_time op) time
+          (subst (λ k. is_in_times (times_of c k) time ≡ true) same e))
+      | false ↦ λ t. ap (λ (ps : ChangeTimes). is_in_times ps time)
           (others j (λ same. true≢false (sym (eq-eqb j i same) ∙ t))) ∙ e
     ] refl
 
@@ -259,13 +259,13 @@ one_more_is_tracked keys more c d h ops op i grow at here others all =
     new = record {
       number = i;
       key = at;
-      time = ap (λ (ps : Spans). is_in_spans ps (op_time op)) here
-          ∙ tracked_times_are_in c.near (spans_of c i) (op_time op);
+      time = ap (λ (ps : ChangeTimes). is_in_times ps (op_time op)) here
+          ∙ tracked_times_are_in c.near (times_of c i) (op_time op);
     }
 
 pub unchanging_needs_no_tracking : UnchangingNeedsNoTracking
 unchanging_needs_no_tracking keys more c d h ops op grow same none all =
-    more_tracked keys more c d op grow (λ j time e. ap (λ (ps : Spans). is_in_spans ps time) (same j) ∙ e) ops h
+    more_tracked keys more c d op grow (λ j time e. ap (λ (ps : ChangeTimes). is_in_times ps time) (same j) ∙ e) ops h
     (inr none) all
 
 -- ---- operations that are covered
@@ -285,14 +285,14 @@ tracked_operations_are_covered keys c series h ops are all = go ops h all
   where
     one : (op : Op) → IsTracked keys c op → is_covered series op ≡ true
     one op is =
-        let own : ChangedSeries = record { key = op_key op; spans = spans_of c is.number } in
+        let own : ChangedSeries = record { key = op_key op; times = times_of c is.number } in
         found (λ x. is_op_in x op) series own
         (are.whole is.number own (record {
           key = is.key;
           here = refl;
-          moved = changed_there (spans_of c is.number) (op_time op) is.time;
+          moved = changed_there (times_of c is.number) (op_time op) is.time;
         }))
-        (and_from (pointwise nat_eq (op_key op) (op_key op)) (is_in_spans (spans_of c is.number) (op_time op))
+        (and_from (pointwise nat_eq (op_key op) (op_key op)) (is_in_times (times_of c is.number) (op_time op))
         ((bytes_decides (op_key op) (op_key op)).1 refl) is.time)
 
     go : (os : List Op) (h : ReplicaState) → AreTracked keys c h os → AreCovered series h os

@@ -1,4 +1,4 @@
--- Cells within the spans of series: archive by archive, and series by series.
+-- Cells within the ranges of series: archive by archive, and series by series.
 use Rattle.std.proofs.Common.{◌≡◌, ℕ, zero, suc, ◌+◌, ◌-◌, ◌<◌, ◌≤◌, Bool, true, false, cond, ◌&&◌, ◌||◌, T, List, [], ◌∷◌, ◌++◌, map, length, take, drop, get_or, refl, sym, ap, ◌∙◌, arith, true≢false, Option, Some, None, Less, Equal, Greater}
 use Rattle.std.specs.Prelude.{int_le, int_lt, nat_eq, nat_lt, ◌==◌, All}
 use Rattle.std.specs.Int.{int_min, int_max}
@@ -22,15 +22,15 @@ use Rattle.rr_delta.specs.Summaries.{cells_after}
 use Rattle.rr_delta.proofs.Walks.{less_from}
 use Rattle.rr_changes.specs.declared.changed_series.ChangedSeries.{ChangedSeries}
 use Rattle.rr_changes.specs.Tracking.{AreInOrder}
-use Rattle.rr_changes.specs.Changes.{AreBeforeName, Slots, is_cell_in, is_cell_in_archive, is_in_slots, is_slot_in_span, is_slot_in_spans, changes_among, is_within, slots_of, up_to}
+use Rattle.rr_changes.specs.Changes.{AreBeforeName, Slots, is_cell_in, is_cell_in_archive, is_in_slots, is_slot_in_range, is_slot_in_times, changes_among, is_within, slots_of, up_to}
 use Rattle.rr_changes.proofs.FilterLemmas.{either_first, everywhere, none_at_all, one_after_other, same_filter, up_to_twice}
 use Rattle.rr_changes.proofs.SlotLemmas.{is_in_says, slots_apart, slots_both}
 
--- ---- the two spans of an archive
+-- ---- the two ranges of an archive
 
 -- where the late one ends before the recent one starts, its cells come first
 pub late_first : (s : Layout) (own : ChangedSeries) (i limit : ℕ) (so_far es : List NamedCell) (recent late : Slots)
-    → recent ≡ slots_of s own.key i own.spans.recent → late ≡ slots_of s own.key i own.spans.late
+    → recent ≡ slots_of s own.key i own.times.recent → late ≡ slots_of s own.key i own.times.late
     → T (is_sorted cell_name_cmp es) → int_lt late.last recent.first ≡ true
     → up_to limit (up_to limit so_far (filter (is_in_slots late) es)) (filter (is_in_slots recent) es)
     ≡ up_to limit so_far (filter (is_cell_in_archive s own i) es)
@@ -51,7 +51,7 @@ late_first s own i limit so_far es recent late r l sorted apart =
 
 -- and the other way round
 pub recent_first : (s : Layout) (own : ChangedSeries) (i limit : ℕ) (so_far es : List NamedCell) (recent late : Slots)
-    → recent ≡ slots_of s own.key i own.spans.recent → late ≡ slots_of s own.key i own.spans.late
+    → recent ≡ slots_of s own.key i own.times.recent → late ≡ slots_of s own.key i own.times.late
     → T (is_sorted cell_name_cmp es) → int_lt recent.last late.first ≡ true
     → up_to limit (up_to limit so_far (filter (is_in_slots recent) es)) (filter (is_in_slots late) es)
     ≡ up_to limit so_far (filter (is_cell_in_archive s own i) es)
@@ -66,7 +66,7 @@ recent_first s own i limit so_far es recent late r l sorted apart =
 
 -- else the slots from the first to the last are those of either
 pub both_at_once : (s : Layout) (own : ChangedSeries) (i : ℕ) (es : List NamedCell) (recent late both : Slots)
-    → recent ≡ slots_of s own.key i own.spans.recent → late ≡ slots_of s own.key i own.spans.late
+    → recent ≡ slots_of s own.key i own.times.recent → late ≡ slots_of s own.key i own.times.late
     → both ≡ record {
       key = own.key;
       archive = i;
@@ -84,11 +84,11 @@ both_at_once s own i es recent late both r l b not_late not_recent =
 
 -- ---- the archives of a series, one after the other
 
--- whether a cell is within the spans of a series, in an archive before this one
+-- whether a cell is within the ranges of a series, in an archive before this one
 abbrev pub is_before_archive : Layout → ChangedSeries → ℕ → NamedCell → Bool
 is_before_archive s own i e = is_cell_in s own e.0 && nat_lt e.0.archive i
 
--- what is known of a cell within the spans of a series in an archive
+-- what is known of a cell within the ranges of a series in an archive
 record IsOfArchive (own : ChangedSeries) (i : ℕ) (e : NamedCell) : Type 0 where
   key : e.0.key ≡ own.key
   archive : e.0.archive ≡ i
@@ -96,8 +96,8 @@ record IsOfArchive (own : ChangedSeries) (i : ℕ) (e : NamedCell) : Type 0 wher
 of_archive : (s : Layout) (own : ChangedSeries) (i : ℕ) (e : NamedCell) → is_cell_in_archive s own i e ≡ true
     → IsOfArchive own i e
 of_archive s own i e t =
-    let recent = slots_of s own.key i own.spans.recent in
-    let late = slots_of s own.key i own.spans.late in
+    let recent = slots_of s own.key i own.times.recent in
+    let late = slots_of s own.key i own.times.late in
     either_case (is_in_slots recent e) (is_in_slots late e) t
     (λ h. let is = is_in_says recent e h in record { key = is.key; archive = is.archive })
     (λ h. let is = is_in_says late e h in record { key = is.key; archive = is.archive })
@@ -114,18 +114,18 @@ one_archive_more : (s : Layout) (own : ChangedSeries) (i : ℕ) (e : NamedCell)
 one_archive_more s own i e =
     elim (e.0.archive == i) as (λ b. (e.0.archive == i) ≡ b
     → ((is_cell_in s own e.0 && nat_lt e.0.archive i)
-    || (((key && b) && is_slot_in_span s i own.spans.recent e.0.slot)
-    || ((key && b) && is_slot_in_span s i own.spans.late e.0.slot)))
+    || (((key && b) && is_slot_in_range s i own.times.recent e.0.slot)
+    || ((key && b) && is_slot_in_range s i own.times.late e.0.slot)))
     ≡ (is_cell_in s own e.0 && nat_lt e.0.archive (i + 1))) [
       | true ↦ λ h.
           let same : e.0.archive ≡ i = eqb-true e.0.archive i h in
           (λ j. (is_cell_in s own e.0 && itself e.0.archive i same j)
-          || (((key && true) && is_slot_in_span s (sym same j) own.spans.recent e.0.slot)
-          || ((key && true) && is_slot_in_span s (sym same j) own.spans.late e.0.slot)))
-          ∙ here key (is_slot_in_span s e.0.archive own.spans.recent e.0.slot)
-          (is_slot_in_span s e.0.archive own.spans.late e.0.slot) (nat_lt e.0.archive (i + 1)) (next e.0.archive i same)
-      | false ↦ λ h. elsewhere key (is_cell_in s own e.0) (is_slot_in_span s i own.spans.recent e.0.slot)
-          (is_slot_in_span s i own.spans.late e.0.slot) (nat_lt e.0.archive i) (nat_lt e.0.archive (i + 1))
+          || (((key && true) && is_slot_in_range s (sym same j) own.times.recent e.0.slot)
+          || ((key && true) && is_slot_in_range s (sym same j) own.times.late e.0.slot)))
+          ∙ here key (is_slot_in_range s e.0.archive own.times.recent e.0.slot)
+          (is_slot_in_range s e.0.archive own.times.late e.0.slot) (nat_lt e.0.archive (i + 1)) (next e.0.archive i same)
+      | false ↦ λ h. elsewhere key (is_cell_in s own e.0) (is_slot_in_range s i own.times.recent e.0.slot)
+          (is_slot_in_range s i own.times.late e.0.slot) (nat_lt e.0.archive i) (nat_lt e.0.archive (i + 1))
           (others e.0.archive i h)
     ] refl
   where
@@ -179,7 +179,7 @@ archive_more s own i es sorted =
     apart x y p q =
         let h = of_archive s own i y q in
         let key : x.0.key ≡ own.key = (bytes_decides x.0.key own.key).0
-        (and_first (pointwise nat_eq x.0.key own.key) (is_slot_in_spans s x.0.archive own.spans x.0.slot)
+        (and_first (pointwise nat_eq x.0.key own.key) (is_slot_in_times s x.0.archive own.times x.0.slot)
         (and_first (is_cell_in s own x.0) (nat_lt x.0.archive i) p)) in
         let rest = ordering_then (int_cmp x.0.slot y.0.slot) (nat_cmp x.0.origin y.0.origin) in
         ap is_lt (
@@ -288,7 +288,7 @@ sliced series k = take_all (length series - k) (drop k series) (omega (arith, le
 
 of_key : (s : Layout) (own : ChangedSeries) (e : NamedCell) → is_cell_in s own e.0 ≡ true → e.0.key ≡ own.key
 of_key s own e h = (bytes_decides e.0.key own.key).0
-    (and_first (pointwise nat_eq e.0.key own.key) (is_slot_in_spans s e.0.archive own.spans e.0.slot) h)
+    (and_first (pointwise nat_eq e.0.key own.key) (is_slot_in_times s e.0.archive own.times e.0.slot) h)
 
 -- the cells of series whose keys are after another come after it
 within_after : (s : Layout) (key : List ℕ) (series : List ChangedSeries)

@@ -1,4 +1,4 @@
--- The laws of spans and of the changes within them, each the contract of a function of `src/laws.rt`.
+-- The laws of ranges and of the changes within them, each the contract of a function of `src/laws.rt`.
 use Rattle.std.specs.Prelude.{◌≡◌, ◌≢◌, ◌++◌, ◌∷◌, [], true, ℕ, ℤ, IsTrue, List, fold, slice_get, Some, None, Option}
 use mathlib.Core.List.{IsPrefix}
 use Rattle.std.specs.FinMap.{entries, is_sorted, retain_keys}
@@ -11,22 +11,22 @@ use Rattle.rr_cells.specs.ReplicaState.{ReplicaState}
 use Rattle.rr_cells.specs.Operations.{op_key, step}
 use Rattle.rr_delta.specs.Summaries.{cells_after}
 use Rattle.rr_changes.specs.declared.changed_series.ChangedSeries.{ChangedSeries}
-use Rattle.rr_changes.specs.declared.span.Spans.{Spans}
+use Rattle.rr_changes.specs.declared.time_range.ChangeTimes.{ChangeTimes}
 use Rattle.rr_changes.specs.Updates.{AreWrites, GoesOn, IsUpdate, op_time}
-use Rattle.rr_changes.specs.Spans.{is_in_spans, with_time}
-use Rattle.rr_changes.specs.Tracking.{ChangedState, AreChangedSeries, AreTracked, spans_of}
+use Rattle.rr_changes.specs.ChangeTimes.{is_in_times, with_time}
+use Rattle.rr_changes.specs.Tracking.{ChangedState, AreChangedSeries, AreTracked, times_of}
 use Rattle.rr_changes.specs.Changes.{AreBatches, AreCovered, ArePeriods, Period, changes_among, is_within, writes_of}
 
--- ---- spans
+-- ---- ranges
 
--- a time that is tracked is in the spans
+-- a time that is tracked is in the ranges
 abbrev pub TrackedTimesAreIn : Type 0
-TrackedTimesAreIn = (near : ℕ) (ps : Spans) (time : ℤ) → is_in_spans (with_time near ps time) time ≡ true
+TrackedTimesAreIn = (near : ℕ) (ps : ChangeTimes) (time : ℤ) → is_in_times (with_time near ps time) time ≡ true
 
 -- and so are all that were
 abbrev pub TimesStayIn : Type 0
-TimesStayIn = (near : ℕ) (ps : Spans) (time other : ℤ) → is_in_spans ps other ≡ true
-    → is_in_spans (with_time near ps time) other ≡ true
+TimesStayIn = (near : ℕ) (ps : ChangeTimes) (time other : ℤ) → is_in_times ps other ≡ true
+    → is_in_times (with_time near ps time) other ≡ true
 
 -- ---- operations that are tracked
 
@@ -35,33 +35,33 @@ abbrev pub OneMoreIsTracked : Type 0
 OneMoreIsTracked =
     (keys more : List (List ℕ)) (c d : ChangedState) (h : ReplicaState) (ops : List Op) (op : Op) (i : ℕ)
     → IsPrefix keys more → slice_get more i ≡ Some (op_key op)
-    → spans_of d i ≡ with_time c.near (spans_of c i) (op_time op)
-    → ((j : ℕ) → j ≢ i → spans_of d j ≡ spans_of c j)
+    → times_of d i ≡ with_time c.near (times_of c i) (op_time op)
+    → ((j : ℕ) → j ≢ i → times_of d j ≡ times_of c j)
     → AreTracked keys c h ops → AreTracked more d h (ops ++ op ∷ [])
 
 -- so they are with one more that changes no cell, which may be passed over
 abbrev pub UnchangingNeedsNoTracking : Type 0
 UnchangingNeedsNoTracking =
     (keys more : List (List ℕ)) (c d : ChangedState) (h : ReplicaState) (ops : List Op) (op : Op) → IsPrefix keys more
-    → ((j : ℕ) → spans_of d j ≡ spans_of c j) → (step (fold step h ops) op).cells ≡ (fold step h ops).cells
+    → ((j : ℕ) → times_of d j ≡ times_of c j) → (step (fold step h ops) op).cells ≡ (fold step h ops).cells
     → AreTracked keys c h ops → AreTracked more d h (ops ++ op ∷ [])
 
 -- operations that are tracked are covered by the list of changed series
 abbrev pub TrackedOperationsAreCovered : Type 0
 TrackedOperationsAreCovered =
     (keys : List (List ℕ)) (c : ChangedState) (series : List ChangedSeries) (h : ReplicaState) (ops : List Op)
-    → AreChangedSeries keys c.spans series → AreTracked keys c h ops → AreCovered series h ops
+    → AreChangedSeries keys c.times series → AreTracked keys c h ops → AreCovered series h ops
 
--- ---- cells within spans
+-- ---- cells within ranges
 
--- where all operations since a moment are covered, the cells within the spans are an update since then
+-- where all operations since a moment are covered, the cells within the ranges are an update since then
 abbrev pub CoveredCellsAreAnUpdate : Type 0
 CoveredCellsAreAnUpdate =
     (h : ReplicaState) (ops : List Op) (series : List ChangedSeries) → GoesOn h
     → AreCovered series h ops
     → IsUpdate h.cells (fold step h ops).cells (retain_keys (fold step h ops).cells (is_within h.schema series))
 
--- so whoever has the cells of then, and joins those within the spans one by one, has the cells of now
+-- so whoever has the cells of then, and joins those within the ranges one by one, has the cells of now
 abbrev pub CoveredCellsMakeTheCells : Type 0
 CoveredCellsMakeTheCells =
     (h : ReplicaState) (ops : List Op) (series : List ChangedSeries) → GoesOn h
@@ -94,6 +94,6 @@ abbrev pub TrackedChangesMakeTheCells : Type 0
 TrackedChangesMakeTheCells =
     (h : ReplicaState) (ops : List Op) (keys : List (List ℕ)) (c : ChangedState) (series : List ChangedSeries)
     (limit : ℕ)
-    (batches : List (List NamedCell)) → GoesOn h → AreTracked keys c h ops → AreChangedSeries keys c.spans series
+    (batches : List (List NamedCell)) → GoesOn h → AreTracked keys c h ops → AreChangedSeries keys c.times series
     → AreBatches limit None (changes_among h.schema series (entries (fold step h ops).cells)) batches
     → join_cells h.schema h.cells (flat_map (λ b. b) batches) ≡ (fold step h ops).cells

@@ -1,4 +1,4 @@
--- The cells of changed series that are in the slots of their spans, a number of them at a time.
+-- The cells of changed series that are in the slots of their ranges, a number of them at a time.
 use Rattle.std.specs.Prelude.{◌≡◌, ◌⊎◌, ℕ, ℤ, ◌-◌, int_le, nat_eq, nat_lt, All, Bool, true, false, MatchBool, ◌&&◌, ◌||◌, List, [], ◌∷◌, ◌++◌, fold, length, take, if◌then◌else◌, Option, Some, None}
 use Rattle.std.specs.Borrow.{Bor}
 use Rattle.std.specs.Cmp.Lexicographic.{pointwise, slice_cmp}
@@ -19,25 +19,25 @@ use Rattle.rr_cells.specs.ReplicaState.{ReplicaState}
 use Rattle.rr_delta.specs.Summaries.{cells_after}
 use Rattle.rr_changes.specs.declared.changed_series.ChangedSeries.{ChangedSeries}
 use Rattle.rr_changes.specs.declared.slots.Slots as source
-use Rattle.rr_changes.specs.declared.span.Span.{Span}
-use Rattle.rr_changes.specs.declared.span.Spans.{Spans}
-use Rattle.rr_changes.specs.Spans.{is_in_spans}
+use Rattle.rr_changes.specs.declared.time_range.TimeRange.{TimeRange}
+use Rattle.rr_changes.specs.declared.time_range.ChangeTimes.{ChangeTimes}
+use Rattle.rr_changes.specs.ChangeTimes.{is_in_times}
 use Rattle.rr_changes.specs.Updates.{Write, op_time}
 
--- ---- cells within spans
+-- ---- cells within ranges
 
--- whether a slot of an archive is that of a time of the span
-abbrev pub is_slot_in_span : Layout → ℕ → Span → ℤ → Bool
-is_slot_in_span s archive p slot = int_le (slot_of s archive p.first) slot && int_le slot (slot_of s archive p.last)
+-- whether a slot of an archive is that of a time of the range
+abbrev pub is_slot_in_range : Layout → ℕ → TimeRange → ℤ → Bool
+is_slot_in_range s archive p slot = int_le (slot_of s archive p.first) slot && int_le slot (slot_of s archive p.last)
 
-abbrev pub is_slot_in_spans : Layout → ℕ → Spans → ℤ → Bool
-is_slot_in_spans s archive ps slot = is_slot_in_span s archive ps.recent slot || is_slot_in_span s archive ps.late slot
+abbrev pub is_slot_in_times : Layout → ℕ → ChangeTimes → ℤ → Bool
+is_slot_in_times s archive ps slot = is_slot_in_range s archive ps.recent slot || is_slot_in_range s archive ps.late slot
 
--- whether a cell is of this series, in a slot of its spans
+-- whether a cell is of this series, in a slot of its ranges
 abbrev pub is_cell_in : Layout → ChangedSeries → CellName → Bool
-is_cell_in s series n = pointwise nat_eq n.key series.key && is_slot_in_spans s n.archive series.spans n.slot
+is_cell_in s series n = pointwise nat_eq n.key series.key && is_slot_in_times s n.archive series.times n.slot
 
--- whether a cell is of one of these series, in a slot of its spans
+-- whether a cell is of one of these series, in a slot of its ranges
 abbrev pub is_within : Layout → List ChangedSeries → CellName → Bool
 is_within s series n = list_any (λ own. is_cell_in s own n) series
 
@@ -45,13 +45,13 @@ is_within s series n = list_any (λ own. is_cell_in s own n) series
 abbrev pub changes_among : Layout → List ChangedSeries → List NamedCell → List NamedCell
 changes_among s series es = filter (λ e. is_within s series e.0) es
 
--- ---- operations within spans
+-- ---- operations within ranges
 
--- whether an operation is of this series, at a time of its spans
+-- whether an operation is of this series, at a time in its ranges
 abbrev pub is_op_in : ChangedSeries → Op → Bool
-is_op_in series op = pointwise nat_eq (op_key op) series.key && is_in_spans series.spans (op_time op)
+is_op_in series op = pointwise nat_eq (op_key op) series.key && is_in_times series.times (op_time op)
 
--- whether an operation is of one of these series, at a time of its spans
+-- whether an operation is of one of these series, at a time in its ranges
 abbrev pub is_covered : List ChangedSeries → Op → Bool
 is_covered series op = list_any (λ own. is_op_in own op) series
 
@@ -73,7 +73,7 @@ abbrev pub ArePeriods : ReplicaState → List Period → Type 0
 ArePeriods h [] = Unit {0}
 ArePeriods h (p ∷ later) = AreCovered p.series h p.ops × ArePeriods (fold step h p.ops) later
 
--- at the end of each the cells within the spans are written
+-- at the end of each the cells within the ranges are written
 abbrev pub writes_of : ReplicaState → List Period → List Write
 writes_of h [] = []
 writes_of h (p ∷ later) = record {
@@ -133,8 +133,8 @@ is_before_slots p e = is_lt
 abbrev pub if_in_slots : Slots → NamedCell → List NamedCell
 if_in_slots p e = if is_in_slots p e then e ∷ [] else []
 
--- the slots of the times of a span
-abbrev pub slots_of : Layout → List ℕ → ℕ → Span → Slots
+-- the slots of the times of a range
+abbrev pub slots_of : Layout → List ℕ → ℕ → TimeRange → Slots
 slots_of s key archive p = record {
   key = key;
   archive = archive;
@@ -147,11 +147,11 @@ seen_slots p = record { key = p.key.now; archive = p.archive; first = p.first; l
 
 -- ---- batches as they are made
 
--- whether a cell is of an archive of this series, in a slot of its spans
+-- whether a cell is of an archive of this series, in a slot of its ranges
 abbrev pub is_cell_in_archive : Layout → ChangedSeries → ℕ → NamedCell → Bool
 is_cell_in_archive s series archive e =
-    is_in_slots (slots_of s series.key archive series.spans.recent) e
-    || is_in_slots (slots_of s series.key archive series.spans.late) e
+    is_in_slots (slots_of s series.key archive series.times.recent) e
+    || is_in_slots (slots_of s series.key archive series.times.late) e
 
 -- these cells, and of others as many as reach a limit with them
 abbrev pub up_to : ℕ → List NamedCell → List NamedCell → List NamedCell

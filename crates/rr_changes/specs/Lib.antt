@@ -1,6 +1,6 @@
 pub mod Updates
 pub mod UpdateLaws
-pub mod Spans
+pub mod ChangeTimes
 pub mod Tracking
 pub mod Changes
 pub mod ChangeLaws

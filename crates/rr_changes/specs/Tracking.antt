@@ -10,28 +10,28 @@ use Rattle.rr_cells.specs.Operations.{op_key, step}
 use Rattle.rr_cells.specs.ReplicaState.{ReplicaState}
 use Rattle.rr_replica.specs.Numbered.{knows}
 use Rattle.rr_changes.specs.declared.changed_series.ChangedSeries.{ChangedSeries}
-use Rattle.rr_changes.specs.declared.span.Spans.{Spans}
-use Rattle.rr_changes.specs.declared.span.TheConstants.{UNCHANGED}
-use Rattle.rr_changes.specs.Spans.{is_changed, is_in_spans}
+use Rattle.rr_changes.specs.declared.time_range.ChangeTimes.{ChangeTimes}
+use Rattle.rr_changes.specs.declared.time_range.TheConstants.{UNCHANGED}
+use Rattle.rr_changes.specs.ChangeTimes.{is_changed, is_in_times}
 use Rattle.rr_changes.specs.Updates.{op_time}
 
--- how near a time widens a span, the spans of each series by its number, and for how many more there is room to be
+-- how near a time widens a range, the ranges of each series by its number, and for how many more there is room to be
 -- listed
 pub record ChangedState : Type 0 where
   pub near : ℕ
-  pub spans : List Spans
+  pub times : List ChangeTimes
   pub room : ℕ
 
--- the spans of the series with a number
-abbrev pub spans_at : List Spans → ℕ → Spans
-spans_at spans i = unwrap_or (slice_get spans i) UNCHANGED
+-- the ranges of the series with a number
+abbrev pub times_at : List ChangeTimes → ℕ → ChangeTimes
+times_at times i = unwrap_or (slice_get times i) UNCHANGED
 
-abbrev pub spans_of : ChangedState → ℕ → Spans
-spans_of c i = spans_at c.spans i
+abbrev pub times_of : ChangedState → ℕ → ChangeTimes
+times_of c i = times_at c.times i
 
 -- a change of the series with a number can be tracked
 pub record HasRoom (c : ChangedState) (i : ℕ) : Type 0 where
-  pub place : i < length c.spans
+  pub place : i < length c.times
   pub listing : 0 < c.room
 
 -- ---- the list of changed series
@@ -40,10 +40,10 @@ abbrev pub is_listed : List ℕ → ℕ → Bool
 is_listed changed i = list_any (λ j. j == i) changed
 
 -- exactly the series that have changed are listed
-pub record AreListed (spans : List Spans) (changed : List ℕ) : Type 0 where
-  pub others : (i : ℕ) → is_listed changed i ≡ false → spans_at spans i ≡ UNCHANGED
-  pub within : (i : ℕ) → is_listed changed i ≡ true → i < length spans
-  pub moved : (i : ℕ) → is_listed changed i ≡ true → is_changed (spans_at spans i) ≡ true
+pub record AreListed (times : List ChangeTimes) (changed : List ℕ) : Type 0 where
+  pub others : (i : ℕ) → is_listed changed i ≡ false → times_at times i ≡ UNCHANGED
+  pub within : (i : ℕ) → is_listed changed i ≡ true → i < length times
+  pub moved : (i : ℕ) → is_listed changed i ≡ true → is_changed (times_at times i) ≡ true
 
 -- ---- changed series by their keys
 
@@ -51,47 +51,47 @@ pub record AreListed (spans : List Spans) (changed : List ℕ) : Type 0 where
 abbrev pub AreInOrder : List ChangedSeries → Type 0
 AreInOrder series = IsStrictlySortedBy bytes_cmp (map (λ c. c.key) series)
 
--- a series that has changed, by its number, at which its key and its spans are
-pub record IsSeriesAt (keys : List (List ℕ)) (spans : List Spans) (i : ℕ) (series : ChangedSeries) : Type 0 where
+-- a series that has changed, by its number, at which its key and its ranges are
+pub record IsSeriesAt (keys : List (List ℕ)) (times : List ChangeTimes) (i : ℕ) (series : ChangedSeries) : Type 0 where
   pub key : slice_get keys i ≡ Some series.key
-  pub here : spans_at spans i ≡ series.spans
-  pub moved : is_changed series.spans ≡ true
+  pub here : times_at times i ≡ series.times
+  pub moved : is_changed series.times ≡ true
 
 -- exactly the series that have changed and have a key
-pub record AreChangedSeries (keys : List (List ℕ)) (spans : List Spans) (series : List ChangedSeries) : Type 0 where
-  pub part : All (λ own. (i : ℕ) × IsSeriesAt keys spans i own) series
-  pub whole : (i : ℕ) (own : ChangedSeries) → IsSeriesAt keys spans i own → Contains series own
+pub record AreChangedSeries (keys : List (List ℕ)) (times : List ChangeTimes) (series : List ChangedSeries) : Type 0 where
+  pub part : All (λ own. (i : ℕ) × IsSeriesAt keys times i own) series
+  pub whole : (i : ℕ) (own : ChangedSeries) → IsSeriesAt keys times i own → Contains series own
 
 -- ---- in a tree by their keys
 
--- the spans of a key, if it has some
-abbrev pub spans_by : List (List ℕ × Spans) → List ℕ → Option Spans
-spans_by entries key = lookup (is_at (bytes_cmp key)) entries
+-- the ranges of a key, if it has some
+abbrev pub times_by : List (List ℕ × ChangeTimes) → List ℕ → Option ChangeTimes
+times_by entries key = lookup (is_at (bytes_cmp key)) entries
 
--- with the spans of a number at its key, if it has one, which no number before it has
-pub record AddsSeries (keys : List (List ℕ)) (i : ℕ) (spans : Spans) (old new : List (List ℕ × Spans)) : Type 0 where
-  pub here : (key : List ℕ) → slice_get keys i ≡ Some key → spans_by new key ≡ Some spans
-  pub others : (key : List ℕ) → slice_get keys i ≢ Some key → spans_by new key ≡ spans_by old key
+-- with the ranges of a number at its key, if it has one, which no number before it has
+pub record AddsSeries (keys : List (List ℕ)) (i : ℕ) (times : ChangeTimes) (old new : List (List ℕ × ChangeTimes)) : Type 0 where
+  pub here : (key : List ℕ) → slice_get keys i ≡ Some key → times_by new key ≡ Some times
+  pub others : (key : List ℕ) → slice_get keys i ≢ Some key → times_by new key ≡ times_by old key
   pub first : (key : List ℕ) → slice_get keys i ≡ Some key → knows (take i keys) key ≡ false
   pub ordered : IsStrictlySortedBy bytes_cmp (keys_of old) → IsStrictlySortedBy bytes_cmp (keys_of new)
 
-abbrev pub series_of : List ℕ × Spans → ChangedSeries
-series_of e = record { key = e.0; spans = e.1 }
+abbrev pub series_of : List ℕ × ChangeTimes → ChangedSeries
+series_of e = record { key = e.0; times = e.1 }
 
 -- exactly the series that have changed and have a key, in order
-pub record AreByKey (keys : List (List ℕ)) (spans : List Spans) (entries : List (List ℕ × Spans)) : Type 0 where
+pub record AreByKey (keys : List (List ℕ)) (times : List ChangeTimes) (entries : List (List ℕ × ChangeTimes)) : Type 0 where
   pub ordered : IsStrictlySortedBy bytes_cmp (keys_of entries)
-  pub part : (key : List ℕ) (ps : Spans) → spans_by entries key ≡ Some ps
-      → (i : ℕ) × IsSeriesAt keys spans i (series_of (key, ps))
-  pub whole : (i : ℕ) (own : ChangedSeries) → IsSeriesAt keys spans i own → spans_by entries own.key ≡ Some own.spans
+  pub part : (key : List ℕ) (ps : ChangeTimes) → times_by entries key ≡ Some ps
+      → (i : ℕ) × IsSeriesAt keys times i (series_of (key, ps))
+  pub whole : (i : ℕ) (own : ChangedSeries) → IsSeriesAt keys times i own → times_by entries own.key ≡ Some own.times
 
 -- ---- operations
 
--- an operation is tracked: its time is in the spans at the number of its series
+-- an operation is tracked: its time is in the ranges at the number of its series
 pub record IsTracked (keys : List (List ℕ)) (c : ChangedState) (op : Op) : Type 0 where
   pub number : ℕ
   pub key : slice_get keys number ≡ Some (op_key op)
-  pub time : is_in_spans (spans_of c number) (op_time op) ≡ true
+  pub time : is_in_times (times_of c number) (op_time op) ≡ true
 
 -- each of these is tracked, or changes no cell of the replica where its turn comes
 abbrev pub AreTracked : List (List ℕ) → ChangedState → ReplicaState → List Op → Type 0

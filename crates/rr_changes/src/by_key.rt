@@ -3,44 +3,44 @@ ghost use Rattle.std.specs.Prelude.{◌≡◌, IfOk, OnOk, map};
 ghost use Rattle.rr_changes.specs.Tracking.{AddsSeries, AreByKey, AreListed, series_of};
 
 use crate::changed_series::ChangedSeries;
-use crate::span::Spans;
+use crate::time_range::ChangeTimes;
 use rr_archive::Cells;
 use rr_key::SeriesKey;
 use rr_replica::Replica;
 use std::alloc::{AllocError, Global};
 use std::collections::BTreeMap;
 
-/// Adds the spans of the series with a number at its key, if a replica has one for it.
+/// Adds the ranges of the series with a number at its key, if a replica has one for it.
 fn add_series<A: Cells>(
-    by_key: &mut BTreeMap<SeriesKey, Spans>,
+    by_key: &mut BTreeMap<SeriesKey, ChangeTimes>,
     replica: &Replica<A>,
     series: usize,
-    spans: &Spans,
+    times: &ChangeTimes,
 ) -> Result<(), AllocError>
-    ensures { OnOk result (AddsSeries replica.now.keys series spans.now by_key.old.entries
+    ensures { OnOk result (AddsSeries replica.now.keys series times.now by_key.old.entries
         by_key.new.entries) }
 {
     if series >= replica.key_count() {
         return Ok(());
     }
-    by_key.insert(replica.key_numbered(series).copy()?, *spans)?;
+    by_key.insert(replica.key_numbered(series).copy()?, *times)?;
     Ok(())
 }
 
-/// The spans of these series, which are all that have changed, by the keys that a replica has for
+/// The ranges of these series, which are all that have changed, by the keys that a replica has for
 /// them. The cost is linear in these series, times their logarithm.
-pub(crate) fn spans_by_key<A: Cells>(
+pub(crate) fn times_by_key<A: Cells>(
     alloc: Global,
     replica: &Replica<A>,
     changed: &[usize],
-    spans: &[Spans],
-) -> Result<BTreeMap<SeriesKey, Spans>, AllocError>
-    requires { AreListed spans.now changed.now }
-    ensures { IfOk result (λ by_key. AreByKey replica.now.keys spans.now by_key.entries) }
+    times: &[ChangeTimes],
+) -> Result<BTreeMap<SeriesKey, ChangeTimes>, AllocError>
+    requires { AreListed times.now changed.now }
+    ensures { IfOk result (λ by_key. AreByKey replica.now.keys times.now by_key.entries) }
 {
     let mut by_key = BTreeMap::new(alloc);
     for series in changed {
-        add_series(&mut by_key, replica, *series, &spans[*series])?;
+        add_series(&mut by_key, replica, *series, &times[*series])?;
     }
     Ok(by_key)
 }
@@ -48,15 +48,15 @@ pub(crate) fn spans_by_key<A: Cells>(
 /// A list of series by their keys, in the same order. The keys' bytes are shared.
 pub(crate) fn list_by_key(
     alloc: Global,
-    by_key: &BTreeMap<SeriesKey, Spans>,
+    by_key: &BTreeMap<SeriesKey, ChangeTimes>,
 ) -> Result<Vec<ChangedSeries>, AllocError>
     ensures { IfOk result (λ series. series.items ≡ map series_of by_key.now.entries) }
 {
     let mut list = Vec::new(alloc);
-    for (key, spans) in by_key {
+    for (key, times) in by_key {
         list.push(ChangedSeries {
             key: key.copy()?,
-            spans: *spans,
+            times: *times,
         })?;
     }
     Ok(list)

@@ -1,6 +1,6 @@
 //! A series that has changed.
 
-use crate::span::Spans;
+use crate::time_range::ChangeTimes;
 use rr_key::SeriesKey;
 
 /// A series that has changed, and where.
@@ -8,6 +8,6 @@ use rr_key::SeriesKey;
 pub struct ChangedSeries {
     /// The key of the series.
     pub key: SeriesKey,
-    /// The times of its changes.
-    pub spans: Spans,
+    /// The ranges of times in which it changed.
+    pub times: ChangeTimes,
 }

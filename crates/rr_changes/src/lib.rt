@@ -3,29 +3,29 @@
 //! An update is a part of a map of cells that has all that was added to it since an earlier moment:
 //! joined to what was there before, it makes what is there now, and updates may be joined in any
 //! order and any number of times (`specs/Updates.antt`). An operation changes cells of its key
-//! alone, in the slots of its time. So whoever notes, of each series, the times of its changes,
+//! alone, in the slots of its time. So whoever tracks, of each series, the times of its changes,
 //! finds an update among its cells at the cost of the series that changed, and never of all.
 //!
-//! [`ChangedSpans`] notes them: at most two [`Spans`] of times a series (`specs/Tracking.antt`).
-//! Before an operation is applied it is made `ready` for its series, and after that `note` can't
+//! [`ChangeTracker`] tracks them: at most two [`TimeRange`]s a series (`specs/Tracking.antt`).
+//! Before an operation is applied it is made `ready` for its series, and after that `track` can't
 //! fail. To write what changed, its `series` are listed in the order of their keys, and
-//! [`next_changes`] gives the cells in the slots of their spans, so many at a time, each call after
+//! [`next_changes`] gives the cells in the slots of their ranges, so many at a time, each call after
 //! the last cell of the one before, until fewer come (`specs/Changes.antt`). Once they are written,
 //! it is cleared; if they aren't, the next list has them again. [`laws`] say what the cells of all
 //! calls come to.
 #![tactic(auto)]
 
 mod by_key;
+mod change_tracker;
 mod changed_series;
-mod changed_spans;
 pub mod laws;
 mod listing;
 mod slots;
-mod span;
 mod time;
+mod time_range;
 
+pub use change_tracker::ChangeTracker;
 pub use changed_series::ChangedSeries;
-pub use changed_spans::ChangedSpans;
 pub use listing::next_changes;
-pub use span::{NEVER, Span, Spans, UNCHANGED};
 pub use time::op_time;
+pub use time_range::{ChangeTimes, NEVER, TimeRange, UNCHANGED};

@@ -1,4 +1,4 @@
-//! The cells within spans, a number of them at a time.
+//! The cells within ranges, a number of them at a time.
 ghost use Rattle.std.specs.Prelude.{◌≡◌, ◌<◌, ◌≤◌, IfOk, OnOk, drop, length, map, take, vec_len};
 ghost use Rattle.std.specs.FinMap.{entries};
 ghost use Rattle.std.specs.List.{filter};
@@ -93,7 +93,7 @@ fn list_slots<A: Cells>(
     Ok(())
 }
 
-/// Adds the cells of an archive of a series within its spans, in order and up to the limit.
+/// Adds the cells of an archive of a series within its ranges, in order and up to the limit.
 fn list_archive<A: Cells>(
     query: &Query<'_, A>,
     series: &ChangedSeries,
@@ -107,8 +107,8 @@ fn list_archive<A: Cells>(
         (cells_after (name_in query.now.after) (entries query.now.replica.now.cells)))) }
 {
     let schema = query.replica.schema();
-    let recent = Slots::of(schema, &series.key, archive, &series.spans.recent);
-    let late = Slots::of(schema, &series.key, archive, &series.spans.late);
+    let recent = Slots::of(schema, &series.key, archive, &series.times.recent);
+    let late = Slots::of(schema, &series.key, archive, &series.times.late);
     if late.last < recent.first {
         list_slots(query, &late, cells)?;
         return list_slots(query, &recent, cells);
@@ -126,7 +126,7 @@ fn list_archive<A: Cells>(
     list_slots(query, &both, cells)
 }
 
-/// Adds the cells of a series within its spans, in order and up to the limit.
+/// Adds the cells of a series within its ranges, in order and up to the limit.
 fn list_series<A: Cells>(
     query: &Query<'_, A>,
     series: &ChangedSeries,
@@ -144,7 +144,7 @@ fn list_series<A: Cells>(
     Ok(())
 }
 
-/// Adds the cells of series within their spans, in order and up to the limit. The keys of the
+/// Adds the cells of series within their ranges, in order and up to the limit. The keys of the
 /// series strictly ascend.
 fn list_all<A: Cells>(
     query: &Query<'_, A>,
@@ -178,12 +178,12 @@ fn count_before(series: &[ChangedSeries], after: Option<&Cell>) -> usize
     }
 }
 
-/// The next changes of a replica: of its live cells of these series, in the slots of their spans,
+/// The next changes of a replica: of its live cells of these series, in the slots of their ranges,
 /// those that come first after a cell in the order of names, or first of all; as many as `limit`,
 /// and fewer only where there are no more. The keys of the series strictly ascend.
 ///
 /// The cost is that of `CellWalk::next_cell` for each of these cells, of two look-ups of the key
-/// for each span of each archive of their series, and of finding the first of these series.
+/// for each range of each archive of their series, and of finding the first of these series.
 pub fn next_changes<A: Cells>(
     alloc: Global,
     replica: &Replica<A>,

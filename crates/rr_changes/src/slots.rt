@@ -1,11 +1,11 @@
-//! The slots of spans.
+//! The slots of ranges.
 ghost use Rattle.std.specs.Prelude.{◌≡◌, ◌<◌, ◌++◌, length, map, FitsSigned, OnOk};
 ghost use Rattle.std.specs.Int.{w64};
 ghost use Rattle.rr_archive.specs.CellSlots.{IsSlot};
 ghost use Rattle.rr_cells.specs.Listing.{owned_cell, seen_cell};
 ghost use Rattle.rr_changes.specs.Changes.{if_in_slots, is_before_slots, is_beyond, is_in_slots, seen_slots, slots_of};
 
-use crate::span::Span;
+use crate::time_range::TimeRange;
 use rr_cells::{Cell, CellRef};
 use rr_key::SeriesKey;
 use rr_schema::Schema;
@@ -21,16 +21,21 @@ pub(crate) struct Slots<'a> {
 }
 
 impl<'a> Slots<'a> {
-    /// The slots of the times of a span.
-    pub(crate) fn of(schema: &Schema, key: &'a SeriesKey, archive: u8, span: &Span) -> Slots<'a>
+    /// The slots of the times of a range.
+    pub(crate) fn of(
+        schema: &Schema,
+        key: &'a SeriesKey,
+        archive: u8,
+        range: &TimeRange,
+    ) -> Slots<'a>
         requires { archive < length schema.now.archives }
-        ensures slots { seen_slots result ≡ slots_of schema.now key.now archive span.now }
+        ensures slots { seen_slots result ≡ slots_of schema.now key.now archive range.now }
         ensures first { IsSlot result.first }
     {
         // The proof needs what the schema keeps to, which `archives` ensures.
         let _archives = schema.archives();
-        let first = schema.slot(archive, span.first);
-        let last = schema.slot(archive, span.last);
+        let first = schema.slot(archive, range.first);
+        let last = schema.slot(archive, range.last);
         Slots {
             key,
             archive,

@@ -1,7 +1,7 @@
-//! Spans, and the changes within them.
+//! ChangeTimes, and the changes within them.
 ghost use Rattle.rr_changes.specs.ChangeLaws.{TrackedTimesAreIn, TimesStayIn, OneMoreIsTracked, UnchangingNeedsNoTracking, TrackedOperationsAreCovered, CoveredCellsAreAnUpdate, CoveredCellsMakeTheCells, PeriodsAreWrites, BatchesAreTheWhole, BatchesMakeTheCells, TrackedChangesMakeTheCells};
 
-/// A time that is noted is in the spans of its series, and stays there. So operations that are
+/// A time that is tracked is in the ranges of its series, and stays there. So operations that are
 /// tracked as they come, by the numbers of their series, are covered by the list of changed series;
 /// one that changes no cell may be passed over.
 pub fn tracked_operations_are_covered()
@@ -12,7 +12,7 @@ pub fn tracked_operations_are_covered()
     ensures covered { TrackedOperationsAreCovered }
 {}
 
-/// The cells within spans that cover all operations since a moment are an update since then:
+/// The cells within ranges that cover all operations since a moment are an update since then:
 /// joined to the cells of then, all at once or in batches, they make the cells of now. So what is
 /// written from time to time are updates one after the other, which bring all in any order.
 pub fn covered_cells_are_an_update()

@@ -31,9 +31,9 @@ returns-then-late-recent g c =
     let es = cells_after after (entries m) in
     let limit = c.args.query.now.limit in
     let recent = c.of-recent.ensures.slots
-    ∙ ap (λ (l : Layout). slots_of l own.key i own.spans.recent) c.schema-schema.ensures.value in
+    ∙ ap (λ (l : Layout). slots_of l own.key i own.times.recent) c.schema-schema.ensures.value in
     let late = c.of-late.ensures.slots
-    ∙ ap (λ (l : Layout). slots_of l own.key i own.spans.late) c.schema-schema.ensures.value in
+    ∙ ap (λ (l : Layout). slots_of l own.key i own.times.late) c.schema-schema.ensures.value in
     let apart : int_lt c.of-late.result.last c.of-recent.result.first ≡ true = search rules in
     on_ok_weaker c.list_slots-then-late-recent.result (λ listed. listed
     ∙ (λ j. up_to limit (c.in_ok-list_slots.ensures j) (filter (is_in_slots (seen_slots c.of-recent.result)) es))
@@ -51,9 +51,9 @@ returns-then-recent-late g c =
     let es = cells_after after (entries m) in
     let limit = c.args.query.now.limit in
     let recent = c.of-recent.ensures.slots
-    ∙ ap (λ (l : Layout). slots_of l own.key i own.spans.recent) c.schema-schema.ensures.value in
+    ∙ ap (λ (l : Layout). slots_of l own.key i own.times.recent) c.schema-schema.ensures.value in
     let late = c.of-late.ensures.slots
-    ∙ ap (λ (l : Layout). slots_of l own.key i own.spans.late) c.schema-schema.ensures.value in
+    ∙ ap (λ (l : Layout). slots_of l own.key i own.times.late) c.schema-schema.ensures.value in
     let apart : int_lt c.of-recent.result.last c.of-late.result.first ≡ true = search rules in
     on_ok_weaker c.list_slots-then-recent-late-2.result (λ listed. listed
     ∙ (λ j. up_to limit (c.in_ok-list_slots-2.ensures j) (filter (is_in_slots (seen_slots c.of-late.result)) es))
@@ -69,9 +69,9 @@ returns g c =
     let i = c.args.archive in
     let es = cells_after (name_in c.args.query.now.after) (entries m) in
     let recent = c.of-recent.ensures.slots
-    ∙ ap (λ (l : Layout). slots_of l own.key i own.spans.recent) c.schema-schema.ensures.value in
+    ∙ ap (λ (l : Layout). slots_of l own.key i own.times.recent) c.schema-schema.ensures.value in
     let late = c.of-late.ensures.slots
-    ∙ ap (λ (l : Layout). slots_of l own.key i own.spans.late) c.schema-schema.ensures.value in
+    ∙ ap (λ (l : Layout). slots_of l own.key i own.times.late) c.schema-schema.ensures.value in
     let not_late : int_lt c.of-late.result.last c.of-recent.result.first ≡ false = search rules in
     let not_recent : int_lt c.of-recent.result.last c.of-late.result.first ≡ false = search rules in
     let min : to_z w64 (of_z w64 c.min.result) ≡ c.min.result = search rules in

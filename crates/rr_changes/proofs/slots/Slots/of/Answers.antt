@@ -9,8 +9,8 @@ pub returns-clause-first : goal.returns-clause-first
 returns-clause-first c =
     let s = c.args.schema.now in
     let same : to_z w64 (of_z w64 c.slot-first.result) ≡ c.slot-first.result = search rules in
-    let fits : FitsSigned w64 c.args.span.now.first = search rules in
-    let time : to_z w64 (of_z w64 c.args.span.now.first) ≡ c.args.span.now.first = search rules in
+    let fits : FitsSigned w64 c.args.range.now.first = search rules in
+    let time : to_z w64 (of_z w64 c.args.range.now.first) ≡ c.args.range.now.first = search rules in
     let at = same ∙ c.slot-first.ensures ∙ ap (slot_of s c.args.archive) time in
     subst (λ (z : ℤ). IsSlot z) (sym at)
-    (slot_is s c.archives-archives.ensures.within c.args.archive c.args.span.now.first fits)
+    (slot_is s c.archives-archives.ensures.within c.args.archive c.args.range.now.first fits)

@@ -1,46 +1,46 @@
--- Spans of times, and what one time more makes of them.
+-- Time ranges, and what one time more makes of them.
 use Rattle.std.specs.Prelude.{ℕ, ℤ, ◌-ℤ◌, int_le, int_lt, nat_le, unsigned_abs, Bool, not, ◌&&◌, ◌||◌, if◌then◌else◌}
 use Rattle.std.specs.Int.{int_min, int_max}
-use Rattle.rr_changes.specs.declared.span.Span.{Span}
-use Rattle.rr_changes.specs.declared.span.Spans.{Spans}
+use Rattle.rr_changes.specs.declared.time_range.TimeRange.{TimeRange}
+use Rattle.rr_changes.specs.declared.time_range.ChangeTimes.{ChangeTimes}
 
--- whether a time is in a span
-abbrev pub is_in_span : Span → ℤ → Bool
-is_in_span p time = int_le p.first time && int_le time p.last
+-- whether a time is in a range
+abbrev pub is_in_range : TimeRange → ℤ → Bool
+is_in_range p time = int_le p.first time && int_le time p.last
 
--- whether no time is in a span
-abbrev pub is_empty : Span → Bool
+-- whether no time is in a range
+abbrev pub is_empty : TimeRange → Bool
 is_empty p = int_lt p.last p.first
 
--- how far a time is from the nearest in a span
-abbrev pub gap : Span → ℤ → ℕ
+-- how far a time is from the nearest in a range
+abbrev pub gap : TimeRange → ℤ → ℕ
 gap p time =
     if int_lt time p.first then unsigned_abs (p.first -ℤ time)
     else (if int_lt p.last time then unsigned_abs (time -ℤ p.last) else 0)
 
--- a span with a time more, and all between
-abbrev pub widened : Span → ℤ → Span
+-- a range with a time more, and all between
+abbrev pub widened : TimeRange → ℤ → TimeRange
 widened p time = record { first = int_min p.first time; last = int_max p.last time }
 
--- ---- the two spans of a series
+-- ---- the two ranges of a series
 
 -- whether a time is in one of them
-abbrev pub is_in_spans : Spans → ℤ → Bool
-is_in_spans ps time = is_in_span ps.recent time || is_in_span ps.late time
+abbrev pub is_in_times : ChangeTimes → ℤ → Bool
+is_in_times ps time = is_in_range ps.recent time || is_in_range ps.late time
 
 -- whether a series with these has changed: a time is in one of them
-abbrev pub is_changed : Spans → Bool
+abbrev pub is_changed : ChangeTimes → Bool
 is_changed ps = not (is_empty ps.recent) || not (is_empty ps.late)
 
 -- whether a time goes to the recent one: that is empty, or so near to the time, or not farther from it than the late
 -- one
-abbrev pub is_nearer_recent : ℕ → Spans → ℤ → Bool
+abbrev pub is_nearer_recent : ℕ → ChangeTimes → ℤ → Bool
 is_nearer_recent near ps time =
     is_empty ps.recent || nat_le (gap ps.recent time) near
     || (not (is_empty ps.late) && nat_le (gap ps.recent time) (gap ps.late time))
 
 -- with a time more: one of the two is widened
-abbrev pub with_time : ℕ → Spans → ℤ → Spans
+abbrev pub with_time : ℕ → ChangeTimes → ℤ → ChangeTimes
 with_time near ps time =
     if is_nearer_recent near ps time
     then record { recent = widened ps.recent time; late = ps.late }

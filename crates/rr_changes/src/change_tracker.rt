@@ -1,29 +1,29 @@
 //! Which series changed since they were last written.
 ghost use Rattle.std.specs.Prelude.{◌≡◌, ◌↔◌, ◌<◌, ◌≤◌, ◌≢◌, ◌++◌, ◌∷◌, [], ℕ, IfOk, IsTrue, OnOk, if◌then◌else◌, length, vec_len, vec_capacity};
-ghost use Rattle.rr_changes.specs.Spans.{is_changed, with_time};
-ghost use Rattle.rr_changes.specs.Tracking.{AreListed, spans_at};
-ghost use Rattle.rr_changes.specs.declared.span.TheConstants.{UNCHANGED};
+ghost use Rattle.rr_changes.specs.ChangeTimes.{is_changed, with_time};
+ghost use Rattle.rr_changes.specs.Tracking.{AreListed, times_at};
+ghost use Rattle.rr_changes.specs.declared.time_range.TheConstants.{UNCHANGED};
 
-use crate::by_key::{list_by_key, spans_by_key};
+use crate::by_key::{list_by_key, times_by_key};
 use crate::changed_series::ChangedSeries;
-use crate::span::{Spans, UNCHANGED};
+use crate::time_range::{ChangeTimes, UNCHANGED};
 use rr_archive::Cells;
 use rr_replica::Replica;
 use std::alloc::{AllocError, Global};
 use std::marker::Model;
 
 /// Which series of a replica changed since they were last written, and in which times: of each
-/// changed one, by its number, the two [`Spans`].
+/// changed one, by its number, the two [`ChangeTimes`].
 ///
 /// It takes 32 bytes a series, changed or not, and 8 a changed one.
 #[derive(Drop)]
-pub struct ChangedSpans {
+pub struct ChangeTracker {
     near: u64,
-    spans: Vec<Spans>,
+    times: Vec<ChangeTimes>,
     changed: Vec<usize>,
 }
 
-impl Model for ChangedSpans {
+impl Model for ChangeTracker {
     ghost use Rattle.std.specs.Prelude.{◌-◌, vec_len, vec_capacity};
     ghost use Rattle.rr_changes.specs.Tracking.{ChangedState, AreListed};
 
@@ -31,45 +31,45 @@ impl Model for ChangedSpans {
 
     ghost view = { λ c. record {
       near = c.near;
-      spans = c.spans.items;
+      times = c.times.items;
       room = vec_capacity c.changed - vec_len c.changed;
     } };
 
-    ghost invariant = { λ c. AreListed c.spans.items c.changed.items };
+    ghost invariant = { λ c. AreListed c.times.items c.changed.items };
 }
 
-impl ChangedSpans {
-    ghost use Rattle.rr_changes.specs.Tracking.{AreChangedSeries, AreInOrder, HasRoom, spans_of};
+impl ChangeTracker {
+    ghost use Rattle.rr_changes.specs.Tracking.{AreChangedSeries, AreInOrder, HasRoom, times_of};
 
     /// No series has changed yet. A time that is no more than so many nanoseconds from the recent
-    /// span of its series widens that. Takes no memory.
-    pub fn new(alloc: Global, near: u64) -> ChangedSpans
-        ensures none { result.spans ≡ [] }
+    /// range of its series widens that. Takes no memory.
+    pub fn new(alloc: Global, near: u64) -> ChangeTracker
+        ensures none { result.times ≡ [] }
         ensures near { result.near ≡ near }
     {
-        ChangedSpans {
+        ChangeTracker {
             near,
-            spans: Vec::new(alloc),
+            times: Vec::new(alloc),
             changed: Vec::new(alloc),
         }
     }
 
     /// Whether no series has changed.
     pub fn is_empty(&self) -> bool
-        ensures { IsTrue result ↔ ((i : ℕ) → spans_of self.now i ≡ UNCHANGED) }
+        ensures { IsTrue result ↔ ((i : ℕ) → times_of self.now i ≡ UNCHANGED) }
     {
         self.changed.is_empty()
     }
 
-    /// Makes room to note a change of the series with a number. No span changes. Where it is
-    /// called before each note, the cost is constant in the mean.
+    /// Makes room to track a change of the series with a number. No range changes. Where it is
+    /// called before each `track`, the cost is constant in the mean.
     #[inline(always)]
     pub fn ready(&mut self, series: usize) -> Result<(), AllocError>
-        ensures same { (i : ℕ) → spans_of self.new i ≡ spans_of self.old i }
+        ensures same { (i : ℕ) → times_of self.new i ≡ times_of self.old i }
         ensures near { self.new.near ≡ self.old.near }
         ensures room { OnOk result (HasRoom self.new series) }
     {
-        if series >= self.spans.len() {
+        if series >= self.times.len() {
             self.make_places(series)?;
         }
         self.changed.reserve(1)
@@ -77,30 +77,30 @@ impl ChangedSpans {
 
     /// Makes a place for the series with a number that has none.
     fn make_places(&mut self, series: usize) -> Result<(), AllocError>
-        requires { length self.old.spans ≤ series }
-        ensures same { (i : ℕ) → spans_of self.new i ≡ spans_of self.old i }
+        requires { length self.old.times ≤ series }
+        ensures same { (i : ℕ) → times_of self.new i ≡ times_of self.old i }
         ensures near { self.new.near ≡ self.old.near }
-        ensures place { OnOk result (series < length self.new.spans) }
+        ensures place { OnOk result (series < length self.new.times) }
     {
         match series.checked_add(1) {
-            Some(count) => self.spans.resize(count, UNCHANGED),
+            Some(count) => self.times.resize(count, UNCHANGED),
             None => Err(AllocError),
         }
     }
 
     /// Notes a change of the series with a number at a time, in nanoseconds since the Unix epoch.
-    /// There is room for it, which [`ChangedSpans::ready`] makes. The cost is constant.
+    /// There is room for it, which [`ChangeTracker::ready`] makes. The cost is constant.
     #[inline(always)]
-    pub fn note(&mut self, series: usize, time: i64)
+    pub fn track(&mut self, series: usize, time: i64)
         requires { HasRoom self.old series }
-        ensures widened { spans_of self.new series
-            ≡ with_time self.old.near (spans_of self.old series) time }
-        ensures others { (i : ℕ) → i ≢ series → spans_of self.new i ≡ spans_of self.old i }
+        ensures widened { times_of self.new series
+            ≡ with_time self.old.near (times_of self.old series) time }
+        ensures others { (i : ℕ) → i ≢ series → times_of self.new i ≡ times_of self.old i }
         ensures near { self.new.near ≡ self.old.near }
     {
-        let spans = self.spans[series];
-        list(&mut self.changed, series, &spans);
-        self.spans[series] = spans.with_time(self.near, time);
+        let times = self.times[series];
+        list(&mut self.changed, series, &times);
+        self.times[series] = times.with_time(self.near, time);
     }
 
     /// The series that have changed, in the order of their keys; a replica has the keys by the
@@ -112,40 +112,40 @@ impl ChangedSpans {
     ) -> Result<Vec<ChangedSeries>, AllocError>
         ensures ascending { IfOk result (λ series. AreInOrder series.items) }
         ensures each { IfOk result (λ series.
-            AreChangedSeries replica.now.keys self.now.spans series.items) }
+            AreChangedSeries replica.now.keys self.now.times series.items) }
     {
-        let by_key = spans_by_key(alloc, replica, &self.changed, &self.spans)?;
+        let by_key = times_by_key(alloc, replica, &self.changed, &self.times)?;
         list_by_key(alloc, &by_key)
     }
 
     /// Forgets all changes. The cost is linear in the series that have changed.
     pub fn clear(&mut self)
-        ensures none { (i : ℕ) → spans_of self.new i ≡ UNCHANGED }
+        ensures none { (i : ℕ) → times_of self.new i ≡ UNCHANGED }
         ensures near { self.new.near ≡ self.old.near }
     {
-        forget(&mut self.spans, &self.changed);
+        forget(&mut self.times, &self.changed);
         self.changed.clear();
     }
 }
 
 /// Lists a series, unless it has changed before.
 #[inline(always)]
-fn list(changed: &mut Vec<usize>, series: usize, spans: &Spans)
+fn list(changed: &mut Vec<usize>, series: usize, times: &ChangeTimes)
     requires { vec_len changed.old < vec_capacity changed.old }
-    ensures { changed.new.items ≡ (if is_changed spans.now then changed.old.items
+    ensures { changed.new.items ≡ (if is_changed times.now then changed.old.items
         else changed.old.items ++ series ∷ []) }
 {
-    if !spans.is_changed() {
+    if !times.is_changed() {
         changed.push_reserved(series);
     }
 }
 
 /// Forgets the changes of these series, which are all that have changed.
-fn forget(spans: &mut [Spans], changed: &[usize])
-    requires { AreListed spans.old changed.now }
-    ensures { (i : ℕ) → spans_at spans.new i ≡ UNCHANGED }
+fn forget(times: &mut [ChangeTimes], changed: &[usize])
+    requires { AreListed times.old changed.now }
+    ensures { (i : ℕ) → times_at times.new i ≡ UNCHANGED }
 {
     for series in changed {
-        spans[*series] = UNCHANGED;
+        times[*series] = UNCHANGED;
     }
 }

@@ -1,24 +1,24 @@
-//! Spans of times.
+//! Ranges of ranges.
 ghost use Rattle.std.specs.Prelude.{◌≡◌};
-ghost use Rattle.rr_changes.specs.Spans.{gap, is_changed, is_empty, is_nearer_recent, widened, with_time};
+ghost use Rattle.rr_changes.specs.ChangeTimes.{gap, is_changed, is_empty, is_nearer_recent, widened, with_time};
 
 /// The times from a first to a last one, in nanoseconds since the Unix epoch, both included: none,
 /// where the first is after the last.
 #[derive(Clone, Copy)]
-pub struct Span {
+pub struct TimeRange {
     /// The first of them.
     pub first: i64,
     /// The last of them.
     pub last: i64,
 }
 
-/// The span that no time is in.
-pub const NEVER: Span = Span {
+/// The range that no time is in.
+pub const NEVER: TimeRange = TimeRange {
     first: i64::MAX,
     last: i64::MIN,
 };
 
-impl Span {
+impl TimeRange {
     /// Whether no time is in it.
     pub fn is_empty(&self) -> bool
         ensures { result ≡ is_empty self.now }
@@ -26,7 +26,7 @@ impl Span {
         self.last < self.first
     }
 
-    /// How far a time is from the nearest in the span, in nanoseconds; 0 within it.
+    /// How far a time is from the nearest in the range, in nanoseconds; 0 within it.
     fn gap(&self, time: i64) -> u64
         ensures { result ≡ gap self.now time }
     {
@@ -39,55 +39,55 @@ impl Span {
         }
     }
 
-    /// The span with a time more, and all between.
-    fn widened(&self, time: i64) -> Span
+    /// The range with a time more, and all between.
+    fn widened(&self, time: i64) -> TimeRange
         ensures { result ≡ widened self.now time }
     {
-        Span {
+        TimeRange {
             first: self.first.min(time),
             last: self.last.max(time),
         }
     }
 }
 
-/// Where a series changed: most changes are in one span of times, and late ones in another, so that
+/// Where a series changed: most changes are in one range of ranges, and late ones in another, so that
 /// what is between the two doesn't count as changed.
 #[derive(Clone, Copy)]
-pub struct Spans {
-    /// The span that the first change began.
-    pub recent: Span,
-    /// The span of changes far from it.
-    pub late: Span,
+pub struct ChangeTimes {
+    /// The range that the first change began.
+    pub recent: TimeRange,
+    /// The range of changes far from it.
+    pub late: TimeRange,
 }
 
-/// The spans of a series that hasn't changed.
-pub const UNCHANGED: Spans = Spans {
+/// The ranges of a series that hasn't changed.
+pub const UNCHANGED: ChangeTimes = ChangeTimes {
     recent: NEVER,
     late: NEVER,
 };
 
-impl Spans {
-    /// The spans with a time more. It widens the recent one where that is empty, or no more than so
+impl ChangeTimes {
+    /// The ranges with a time more. It widens the recent one where that is empty, or no more than so
     /// many nanoseconds from the time, or not farther from it than the late one is. Else it widens
     /// the late one.
     #[inline(always)]
-    pub fn with_time(&self, near: u64, time: i64) -> Spans
+    pub fn with_time(&self, near: u64, time: i64) -> ChangeTimes
         ensures { result ≡ with_time near self.now time }
     {
         if self.is_nearer_recent(near, time) {
-            Spans {
+            ChangeTimes {
                 recent: self.recent.widened(time),
                 late: self.late,
             }
         } else {
-            Spans {
+            ChangeTimes {
                 recent: self.recent,
                 late: self.late.widened(time),
             }
         }
     }
 
-    /// Whether the series has changed: a time is in one of its spans.
+    /// Whether the series has changed: a time is in one of its ranges.
     #[inline(always)]
     pub fn is_changed(&self) -> bool
         ensures { result ≡ is_changed self.now }
@@ -95,7 +95,7 @@ impl Spans {
         !self.recent.is_empty() || !self.late.is_empty()
     }
 
-    /// Whether a time goes to the recent span.
+    /// Whether a time goes to the recent range.
     #[inline(always)]
     fn is_nearer_recent(&self, near: u64, time: i64) -> bool
         ensures { result ≡ is_nearer_recent near self.now time }
