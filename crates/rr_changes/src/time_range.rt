@@ -1,4 +1,4 @@
-//! Ranges of ranges.
+//! Ranges of times.
 ghost use Rattle.std.specs.Prelude.{◌≡◌};
 ghost use Rattle.rr_changes.specs.ChangeTimes.{gap, is_changed, is_empty, is_nearer_recent, widened, with_time};
 
@@ -50,7 +50,7 @@ impl TimeRange {
     }
 }
 
-/// Where a series changed: most changes are in one range of ranges, and late ones in another, so that
+/// Where a series changed: most changes are in one range of times, and late ones in another, so that
 /// what is between the two doesn't count as changed.
 #[derive(Clone, Copy)]
 pub struct ChangeTimes {
