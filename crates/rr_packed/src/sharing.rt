@@ -10,25 +10,25 @@ use std::collections::VecDeque;
 
 /// Makes a block of this archive alone ready to be shared; with another archive's blocks, takes the
 /// one of the same number in its place, if both hold the same rows. One that is ready already, but
-/// isn't the last any more, keeps its packed rows alone. Answers whether it did one of these.
+/// is to keep no rows as they came, keeps its packed rows alone. Answers whether it did one of these.
 fn share_block(
     block: &mut HeldBlock,
     alloc: Global,
     number: i64,
     others: Option<&Blocks>,
-    is_last: bool,
+    keeps_rows: bool,
 ) -> bool
     ensures same { stored_in block.new ≡ stored_in block.old }
     ensures shared { IsTrue result → IsTrue (is_shared block.new) }
 {
     if block.is_shared() {
-        if is_last {
+        if keeps_rows {
             return false;
         }
         return block.keep_packed();
     }
     match others {
-        None => block.finish(alloc, is_last),
+        None => block.finish(alloc, keeps_rows),
         Some(others) => match others.get(number) {
             Some(other) => block.share(alloc, other),
             None => false,
@@ -37,18 +37,31 @@ fn share_block(
 }
 
 impl Blocks {
+    /// Whether the block at a place keeps its rows as they came once it is finished: it is the last
+    /// of the older ones, and those before it are finished already. Where blocks are finished
+    /// together, as those of a snapshot are, none keeps them: all replicas have these blocks from
+    /// then on, and need not compare them.
+    fn keeps_rows(&self, at: usize) -> bool {
+        if at.saturating_add(1) < self.older.len() {
+            return false;
+        }
+        match self.older.get(at.wrapping_sub(1)) {
+            Some((_, before)) => before.is_shared(),
+            None => true,
+        }
+    }
+
     /// Shares the older blocks as [`share_block`] does one, from the last one back to one whose
-    /// packed rows are all that is kept, or that can't be shared. Those before the last one are to
-    /// keep no rows as they came.
+    /// packed rows are all that is kept, or that can't be shared.
     pub(crate) fn share(&mut self, others: Option<&Blocks>)
         ensures { row_at self.new ≡ row_at self.old }
     {
         let mut at = self.older.len();
         while at > 0 {
             at -= 1;
-            let is_last = at + 1 == self.older.len();
+            let keeps_rows = self.keeps_rows(at);
             let number = self.older[at].0;
-            if !share_block(&mut self.older[at].1, self.alloc, number, others, is_last) {
+            if !share_block(&mut self.older[at].1, self.alloc, number, others, keeps_rows) {
                 return;
             }
         }

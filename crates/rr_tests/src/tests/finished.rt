@@ -9,17 +9,20 @@ use std::alloc::Global;
 const SLOTS: u32 = 200;
 
 /// An archive with a sample of an origin in each slot, which made its finished rows ready to be
-/// shared, and then took two of a second origin in slots among them: one in a block that is packed
-/// alone, and one in the block that was finished last.
+/// shared, twice, and then took two of a second origin in slots among them: one in a block that is
+/// packed alone, and one in the block that was finished last.
 fn filled<A: Cells>(alloc: Global) -> Option<A> {
     let (first, second) = (Origin::new(1).ok()?, Origin::new(2).ok()?);
     let mut archive = A::new(alloc, 300);
+    let others: &[A] = &[];
     for n in 0..SLOTS {
         let slot = i64::from(n);
         let sample = Contribution::first(u64::from(n) + 1, 0, slot * 60_000_000_000, slot * slot);
         archive.join_cell(slot, first, &sample).ok()?;
+        if n == 140 {
+            archive.share_rows(others.first());
+        }
     }
-    let others: &[A] = &[];
     archive.share_rows(others.first());
     let late = Contribution::first(7, 0, 70 * 60_000_000_000, -5);
     archive.join_cell(70, second, &late).ok()?;
