@@ -1,0 +1,4 @@
+pub mod TakingLemmas
+pub mod MeaningLemmas
+pub mod ReplayLemmas
+pub mod OriginLemmas

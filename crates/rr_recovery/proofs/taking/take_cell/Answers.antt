@@ -1,0 +1,36 @@
+use Rattle.std.proofs.Common.{rules, ◌≡◌, ◌+◌, ◌-◌, ◌^◌, false, [], ◌∷◌, refl, sym, ap, ◌∙◌}
+use Rattle.std.specs.Prelude.{◌==◌, min}
+use Rattle.rr_cells.specs.CellBounds.{NamedCell}
+use Rattle.rr_cells.specs.Joining.{with_named}
+use Rattle.rr_cells.specs.Listing.{owned_cell}
+use Rattle.rr_replica.specs.ReplicaWithRoom.{replica_state}
+use Rattle.rr_recovery.specs.Joining.{named_by}
+use Rattle.rr_recovery.specs.Found.{found_state}
+use Rattle.rr_recovery.specs.Taking.{Recovery, recovery, with_one}
+use Rattle.rr_recovery.proofs.TakingLemmas.{one_taken}
+use Rattle.rr_recovery.proofs.taking.take_cell.Goals as goal
+
+pub returns : goal.returns
+returns g c =
+    let h = replica_state c.args.replica.now in
+    let f = found_state c.args.found.now in
+    let x = recovery c.args.replica.now c.args.found.now in
+    let e : NamedCell = named_by c.args.group.now.key c.args.group.now.archive c.args.cell.now in
+    let is : owned_cell c.in_ok-cell.cell ≡ e = c.in_ok-cell.ensures in
+    let made : replica_state c.join_cell.new.self ≡ with_named h (owned_cell c.in_ok-cell.cell) =
+    c.in_ok-join_cell.ensures.state.made in
+    let joined : replica_state c.join_cell.new.self ≡ with_named h e = made ∙ ap (with_named h) is in
+    let count : c.saturating_add-found.result ≡ min (f.cells + 1) (2 ^ 64 - 1) = search rules in
+    let other : (e.0.origin == h.origin) ≡ false = search rules in
+    let all : recovery c.join_cell.new.self
+    (record {
+      origin = c.args.found.now.origin;
+      cursors = c.args.found.now.cursors;
+      end = c.args.found.now.end;
+      cells = c.saturating_add-found.result;
+    }) ≡ with_one x e =
+    λ i. record {
+      replica = joined i;
+      found = record { origin = f.origin; cursors = f.cursors; end = f.end; cells = count i };
+    } in
+    record { exact = one_taken x _ e other all; joins = (e ∷ [], joined) }

@@ -1,0 +1,34 @@
+-- What is found in a journal besides cells.
+use Rattle.std.specs.Prelude.{ℕ, ◌+◌, ◌-◌, ◌^◌, nat_eq, min, List, [], ◌∷◌, ◌++◌, set, Option, None, Some}
+use Rattle.std.specs.List.{position}
+use Rattle.std.specs.Cmp.Lexicographic.{pointwise}
+use Rattle.rr_journal.specs.declared.cursor.Cursor.{Cursor}
+use Rattle.rr_recovery.specs.declared.found.Found.{Found}
+
+-- the last origin of records, for each journal the last cursor, the number that the last end of a checkpoint states, and
+-- how many cells were read
+pub record FoundState : Type 0 where
+  pub origin : Option ℕ
+  pub cursors : List Cursor
+  pub end : Option ℕ
+  pub cells : ℕ
+
+abbrev pub found_state : Found → FoundState
+found_state f = record { origin = f.origin; cursors = f.cursors.items; end = f.end; cells = f.cells }
+
+-- nothing yet
+abbrev pub nothing_found : FoundState
+nothing_found = record { origin = None; cursors = []; end = None; cells = 0 }
+
+-- with a cursor in place of the one at a place, or behind all
+abbrev pub put_at : List Cursor → Cursor → Option ℕ → List Cursor
+put_at cs c None = cs ++ c ∷ []
+put_at cs c (Some i) = set cs i c
+
+-- with a cursor in place of that of its journal, or behind all where there is none
+abbrev pub with_cursor : List Cursor → Cursor → List Cursor
+with_cursor cs c = put_at cs c (position (λ d. pointwise nat_eq d.id c.id) cs)
+
+-- one cell more; the count stops at its greatest value
+abbrev pub one_more : FoundState → FoundState
+one_more f = record { origin = f.origin; cursors = f.cursors; end = f.end; cells = min (f.cells + 1) (2 ^ 64 - 1) }

@@ -1,0 +1,5 @@
+pub mod Fault
+pub mod Found
+pub mod Joining
+pub mod Taking
+pub mod Replaying

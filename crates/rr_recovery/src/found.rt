@@ -1,0 +1,65 @@
+//! What a journal has besides cells.
+ghost use Rattle.std.specs.Prelude.{◌≡◌, ◌↔◌, nat_eq, IsTrue, OnOk, Some};
+ghost use Rattle.std.specs.Cmp.Lexicographic.{pointwise};
+ghost use Rattle.std.specs.List.{position};
+ghost use Rattle.rr_recovery.specs.Found.{found_state, nothing_found, with_cursor};
+
+use rr_journal::Cursor;
+use rr_schema::Origin;
+use std::alloc::{AllocError, Global};
+
+/// What was found in the files of a journal besides cells: it is kept from file to file.
+#[derive(Debug, Drop)]
+pub struct Found {
+    /// The origin of the last record of one: samples were written under it last.
+    pub origin: Option<Origin>,
+    /// For each journal that was joined, up to where.
+    pub cursors: Vec<Cursor>,
+    /// How many cells the last checkpoint says that it has.
+    pub end: Option<u64>,
+    /// How many cells were read. It stops at its greatest value.
+    pub cells: u64,
+}
+
+impl Found {
+    /// Nothing yet. Takes no memory.
+    pub fn new(alloc: Global) -> Found
+        ensures { found_state result ≡ nothing_found }
+    {
+        Found {
+            origin: None,
+            cursors: Vec::new(alloc),
+            end: None,
+            cells: 0,
+        }
+    }
+
+    /// Whether a checkpoint is whole, if its file is all that was read: its end was found, and
+    /// states as many cells as were read.
+    pub fn is_whole(&self) -> bool
+        ensures { IsTrue result ↔ (self.now.end ≡ Some self.now.cells) }
+    {
+        self.end == Some(self.cells)
+    }
+}
+
+/// Where the cursor of a cursor's journal is, if there is one.
+fn place_of(cursors: &[Cursor], cursor: &Cursor) -> Option<usize>
+    ensures { result ≡ position (λ c. pointwise nat_eq c.id cursor.now.id) cursors.now }
+{
+    cursors
+        .iter()
+        .position(|known: &Cursor| known.id == cursor.id)
+}
+
+/// Puts a cursor in place of that of its journal, or behind all. The cost is linear in the
+/// cursors.
+pub(crate) fn put_cursor(cursors: &mut Vec<Cursor>, cursor: Cursor) -> Result<(), AllocError>
+    ensures { OnOk result (cursors.new.items ≡ with_cursor cursors.old.items cursor) }
+{
+    match place_of(cursors, &cursor) {
+        Some(place) => cursors[place] = cursor,
+        None => cursors.push(cursor)?,
+    }
+    Ok(())
+}

@@ -1,0 +1,26 @@
+//! A replica from a journal.
+//!
+//! After a crash a node reads its checkpoint and its journal, file after file, into a replica of a
+//! new origin. [`replay`] reads the records of one file up to where none is whole
+//! (`specs/Replaying.antt`), and takes each (`specs/Taking.antt`): its cells are joined, and its
+//! origin, its cursor or its number is kept in [`Found`]. One record is in memory at a time, and its
+//! cells are unpacked one by one. [`last_origin`] goes through a file before, so that the node can
+//! choose an origin that was never used.
+//!
+//! ```text
+//! file ── read_record ─> record ── decode ─> groups ── Decoder ─> cell ── join_cell ─> replica
+//!                                 └─> origin, cursor, end ─> Found
+//! ```
+#![tactic(auto)]
+
+mod fault;
+mod found;
+mod origins;
+mod reading;
+mod replaying;
+mod taking;
+
+pub use fault::RecoveryFault;
+pub use found::Found;
+pub use origins::last_origin;
+pub use replaying::replay;
