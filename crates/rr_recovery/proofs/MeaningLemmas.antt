@@ -1,7 +1,7 @@
 -- What records mean, by their kinds.
-use Rattle.std.proofs.Common.{◌≡◌, ℕ, zero, suc, ◌<◌, ◌%◌, Bool, true, false, List, [], ◌∷◌, length, Option, Some, Result, Ok, Err, IsOk, refl, sym, ap, subst, ◌∙◌, arith}
-use Rattle.std.specs.Prelude.{nat_lt, ◌==◌, ◌||◌, not, if◌then◌else◌}
-use Rattle.std.specs.Int.{w8, w16, w32}
+use Rattle.std.proofs.Common.{◌≡◌, ℕ, zero, suc, ◌<◌, ◌%◌, Bool, true, false, List, [], ◌∷◌, length, Result, Ok, Err, IsOk, refl, ap, subst, arith}
+use Rattle.std.specs.Prelude.{nat_lt, ◌==◌, not, if◌then◌else◌}
+use Rattle.std.specs.Int.{w8, w32}
 use Rattle.std.specs.List.{AllByRecursion}
 use Rattle.rr_text.specs.Results.{◌>>=◌, unless}
 use Rattle.rr_schema.specs.Schema.{Layout}

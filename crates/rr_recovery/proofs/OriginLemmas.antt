@@ -7,8 +7,7 @@ use Rattle.rr_schema.specs.Schema.{Layout}
 use Rattle.rr_journal.specs.declared.cursor.Cursor.{Cursor}
 use Rattle.rr_journal.specs.declared.fault.JournalFault.{JournalFault}
 use Rattle.rr_journal.specs.declared.step.Stop.{Stop}
-use Rattle.rr_journal.specs.Body.{Meaning, HasCells, HasOrigin, HasJoined, HasEnded, meaning_at, origin_of, record_meaning}
-use Rattle.rr_journal.specs.Cursor.{behind}
+use Rattle.rr_journal.specs.Body.{Meaning, HasOrigin, meaning_at, origin_of, record_meaning}
 use Rattle.rr_journal.specs.Reading.{records_of, followed_by}
 use Rattle.rr_journal.specs.Text.{Raw, after}
 use Rattle.rr_journal.proofs.ReadingLemmas.{one_first}

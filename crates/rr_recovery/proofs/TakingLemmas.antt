@@ -1,6 +1,6 @@
 -- Cells and records that are taken one after the other.
-use Rattle.std.proofs.Common.{◌≡◌, ℕ, suc, Bool, true, false, List, [], ◌∷◌, ◌++◌, length, map, drop, ◌+◌, ◌<◌, ◌≤◌, get_or, Option, None, Some, Result, Ok, Err, IsOk, IsTrue, ◌⊎◌, inl, inr, refl, sym, ap, subst, ◌∙◌}
-use Rattle.std.specs.Prelude.{◌==◌, not, if◌then◌else◌}
+use Rattle.std.proofs.Common.{◌≡◌, ℕ, Bool, true, false, List, [], ◌∷◌, ◌++◌, length, map, drop, ◌+◌, ◌<◌, ◌≤◌, get_or, Option, None, Some, Result, Ok, Err, IsOk, IsTrue, ◌⊎◌, inl, inr, refl, sym, ap, subst, ◌∙◌}
+use Rattle.std.specs.Prelude.{◌==◌, not}
 use Rattle.std.specs.List.{flat_map, AllByRecursion}
 use Rattle.std.proofs.lemmas.List.{drop_more, drop_all}
 use Rattle.rr_text.specs.Results.{◌>>=◌, unless}
@@ -13,7 +13,7 @@ use Rattle.rr_codec.specs.declared.fault.CodecFault.{CodecFault}
 use Rattle.rr_codec.specs.declared.fault.CodecFault.TheVariants as codec
 use Rattle.rr_codec.specs.Fields.{SlotEntry}
 use Rattle.rr_codec.specs.Reading.{alone, cells_left, cells_of, checked_cells_of, checked_count, packed_at}
-use Rattle.rr_codec.specs.Decoding.{LeftState, TakesNext, with_cell}
+use Rattle.rr_codec.specs.Decoding.{LeftState, with_cell}
 use Rattle.rr_codec.specs.Laws.{AreChecked}
 use Rattle.rr_codec.proofs.CheckLemmas.{are_taken}
 use Rattle.rr_journal.specs.declared.group.Group.{Group}

@@ -1,7 +1,5 @@
 -- The printed names of faults: each is its variant's, or that of the fault below.
 use Rattle.std.specs.Prelude.{ℕ, List, codes}
-use Rattle.rr_journal.specs.declared.fault.JournalFault.{JournalFault}
-use Rattle.rr_journal.specs.declared.fault.JournalFault.TheVariants as journal
 use Rattle.rr_journal.specs.Fault.{journal_fault_name}
 use Rattle.rr_recovery.specs.declared.fault.RecoveryFault.{RecoveryFault}
 use Rattle.rr_recovery.specs.declared.fault.RecoveryFault.TheVariants.{ReadFailed, BadRecord, OriginUsed, Memory}

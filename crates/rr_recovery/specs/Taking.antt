@@ -1,5 +1,5 @@
 -- What the records of a journal make of a replica, one after the other.
-use Rattle.std.specs.Prelude.{◌≡◌, ◌<◌, ℕ, ◌==◌, List, [], ◌∷◌, length, Some, Result, Ok, Err, IsOk}
+use Rattle.std.specs.Prelude.{◌<◌, ◌==◌, List, [], ◌∷◌, length, Some, Result, Ok, Err, IsOk}
 use Rattle.std.specs.List.{flat_map}
 use Rattle.rr_text.specs.Results.{◌>>=◌, unless, GivesUnless}
 use Rattle.rr_schema.specs.Schema.{Layout}

@@ -1,12 +1,12 @@
-use Rattle.std.proofs.Common.{rules, ◌≡◌, ◌^◌, ◌<◌, ℕ, List, None, Ok, Err, Result, IfSome, sym, ap, subst, ◌∙◌, arith}
+use Rattle.std.proofs.Common.{◌^◌, ◌<◌, Ok, IfSome, subst, arith}
 use Rattle.std.proofs.lemmas.Result.{err_from_is_err_and}
-use Rattle.rr_io.specs.Counted.{failures_of, inner_of}
+use Rattle.rr_io.specs.Counted.{inner_of}
 use Rattle.rr_journal.specs.declared.cursor.Cursor.{Cursor}
 use Rattle.rr_journal.specs.declared.step.Step.{Step}
 use Rattle.rr_journal.specs.Stream.{IsStep, MovesBy}
 use Rattle.rr_journal.specs.Text.{raw_of}
 use Rattle.rr_recovery.specs.declared.fault.RecoveryFault.{RecoveryFault}
-use Rattle.rr_recovery.proofs.OriginLemmas.{FindsTheSame, finds_on, is_found, is_refused, never_refused}
+use Rattle.rr_recovery.proofs.OriginLemmas.{FindsTheSame, finds_on, is_found, is_refused}
 use Rattle.rr_recovery.proofs.ReplayLemmas.{one_more}
 use Rattle.rr_recovery.proofs.origins.last_origin.Goals as goal
 

@@ -1,9 +1,7 @@
-use Rattle.std.proofs.Common.{rules, ◌≡◌, ◌%◌, ℕ, Option, Some, Ok, inl, inr, sym, ap, ◌⊎◌, ◌∙◌}
+use Rattle.std.proofs.Common.{rules, ◌≡◌, ◌%◌, ℕ, Option, Ok, sym, ap, ◌∙◌}
 use Rattle.std.proofs.lemmas.Result.{err_from_is_err_and}
 use Rattle.rr_journal.specs.Body.{meaning_of}
 use Rattle.rr_journal.specs.Text.{raw_of}
-use Rattle.rr_recovery.specs.declared.fault.RecoveryFault.TheVariants.{Memory}
-use Rattle.rr_recovery.specs.Replaying.{origin_after}
 use Rattle.rr_recovery.proofs.OriginLemmas.{origin_bad_unless, origin_read}
 use Rattle.rr_recovery.proofs.origins.origin_after.Goals as goal
 

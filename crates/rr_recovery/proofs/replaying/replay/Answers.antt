@@ -1,13 +1,12 @@
-use Rattle.std.proofs.Common.{rules, ◌≡◌, ◌^◌, ◌<◌, ℕ, List, Ok, Err, Result, IfSome, sym, ap, subst, ◌∙◌, arith}
+use Rattle.std.proofs.Common.{◌^◌, ◌<◌, Ok, IfSome, sym, subst, ◌∙◌, arith}
 use Rattle.std.proofs.lemmas.Result.{err_from_is_err_and}
-use Rattle.rr_io.specs.Counted.{failures_of, inner_of}
+use Rattle.rr_io.specs.Counted.{inner_of}
 use Rattle.rr_journal.specs.declared.cursor.Cursor.{Cursor}
 use Rattle.rr_journal.specs.declared.step.Step.{Step}
 use Rattle.rr_journal.specs.Stream.{IsStep, MovesBy}
 use Rattle.rr_journal.specs.Text.{raw_of}
 use Rattle.rr_replica.specs.ReplicaWithRoom.{replica_state}
 use Rattle.rr_recovery.specs.declared.fault.RecoveryFault.{RecoveryFault}
-use Rattle.rr_recovery.specs.declared.fault.RecoveryFault.TheVariants.{ReadFailed}
 use Rattle.rr_recovery.specs.Taking.{recovery}
 use Rattle.rr_recovery.proofs.TakingLemmas.{joins_schema, joins_then}
 use Rattle.rr_recovery.proofs.ReplayLemmas.{TakesTheSame, is_refused, is_replayed, never_refused, one_more, takes_on}

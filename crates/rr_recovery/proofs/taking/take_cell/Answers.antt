@@ -1,4 +1,4 @@
-use Rattle.std.proofs.Common.{rules, ◌≡◌, ◌+◌, ◌-◌, ◌^◌, false, [], ◌∷◌, refl, sym, ap, ◌∙◌}
+use Rattle.std.proofs.Common.{rules, ◌≡◌, ◌+◌, ◌-◌, ◌^◌, false, [], ◌∷◌, ap, ◌∙◌}
 use Rattle.std.specs.Prelude.{◌==◌, min}
 use Rattle.rr_cells.specs.CellBounds.{NamedCell}
 use Rattle.rr_cells.specs.Joining.{with_named}
@@ -6,7 +6,7 @@ use Rattle.rr_cells.specs.Listing.{owned_cell}
 use Rattle.rr_replica.specs.ReplicaWithRoom.{replica_state}
 use Rattle.rr_recovery.specs.Joining.{named_by}
 use Rattle.rr_recovery.specs.Found.{found_state}
-use Rattle.rr_recovery.specs.Taking.{Recovery, recovery, with_one}
+use Rattle.rr_recovery.specs.Taking.{recovery, with_one}
 use Rattle.rr_recovery.proofs.TakingLemmas.{one_taken}
 use Rattle.rr_recovery.proofs.taking.take_cell.Goals as goal
 
