@@ -3,3 +3,4 @@ pub mod Found
 pub mod Joining
 pub mod Taking
 pub mod Replaying
+pub mod Laws

@@ -15,6 +15,7 @@
 
 mod fault;
 mod found;
+pub mod laws;
 mod origins;
 mod reading;
 mod replaying;
