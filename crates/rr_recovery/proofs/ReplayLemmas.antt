@@ -1,9 +1,8 @@
 -- Records of a stream, one after the other.
-use Rattle.std.proofs.Common.{◌≡◌, ℕ, ◌+◌, ◌-◌, ◌^◌, ◌<◌, ◌≤◌, Bool, true, false, List, [], ◌∷◌, Option, None, Some, IfSome, Result, Ok, Err, ◌⊎◌, inl, inr, refl, sym, ap, subst, ◌∙◌, arith}
+use Rattle.std.proofs.Common.{◌≡◌, ℕ, ◌+◌, ◌-◌, ◌^◌, ◌<◌, Bool, true, false, List, [], ◌∷◌, Option, None, Some, IfSome, Result, Ok, Err, ◌⊎◌, inl, inr, refl, sym, ap, subst, ◌∙◌, arith}
 use Rattle.std.specs.Prelude.{min, ◌==◌}
 use Rattle.std.specs.List.{flat_map}
 use Rattle.rr_text.specs.Results.{◌>>=◌, unless}
-use Rattle.rr_io.specs.Counted.{HasRisen}
 use Rattle.rr_cells.specs.CellBounds.{NamedCell}
 use Rattle.rr_journal.specs.declared.cursor.Cursor.{Cursor}
 use Rattle.rr_journal.specs.declared.fault.JournalFault.{JournalFault}
@@ -139,16 +138,6 @@ is_refused place now x y r (Some bytes) (Some all) new fault so_far step (inr ba
     let read : records_of now.digest all ≡ followed_by (r ∷ []) rest = one_first now.digest all (r, step.0) step.2 in
     inr (inr (sym h.same ∙ ap (λ (z : List Raw × List ℕ). taken_records y z.0) read
     ∙ ap (λ (t : Taken). t >>= λ z. taken_records z rest.0) bad))
-
-pub at_stream : (o : Option (List ℕ)) (answer : List ℕ → Taken) (fault : RecoveryFault)
-    → (fault ≡ ReadFailed) ⊎ (fault ≡ Memory) → IfSome o (λ bytes. IsFaultOf (answer bytes) fault)
-at_stream None answer fault e = tt
-at_stream (Some bytes) answer fault (inl e) = inl e
-at_stream (Some bytes) answer fault (inr e) = inr (inl e)
-
-pub risen : (old mid new : ℕ) → old ≤ mid → HasRisen mid new → HasRisen old new
-risen old mid new le (inl lt) = inl (omega arith)
-risen old mid new le (inr top) = inr top
 
 -- ---- a record is never refused as a failure of the reader
 

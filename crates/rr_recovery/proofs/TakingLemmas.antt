@@ -47,9 +47,6 @@ joins_then h k l a b =
 pub joins_schema : (h k : ReplicaState) → JoinsSome h k → k.schema ≡ h.schema
 joins_schema h k a = ap (λ (m : ReplicaState). m.schema) a.1 ∙ with_all-schema h a.0
 
-pub joins_origin : (h k : ReplicaState) → JoinsSome h k → k.origin ≡ h.origin
-joins_origin h k a = ap (λ (m : ReplicaState). m.origin) a.1 ∙ with_all-origin h a.0
-
 -- ---- one after the other
 
 abbrev Taken : Type 0
@@ -192,19 +189,6 @@ others_left s key archive e left x now new all next taken joins = record {
       next.whole taken;
   joins = joins_then x.replica now.replica new.replica next.joins joins;
 }
-
--- at the end
-pub none_left : (s : Layout) (key : List ℕ) (archive : ℕ) (left : Result (List SlotEntry) CodecFault) (x now : Recovery)
-    (all : List NamedCell) → IsLeft s key archive left x now all → left ≡ Ok [] → taken_cells x all ≡ Ok now
-none_left s key archive left x now all l e =
-    let is : l.es ≡ [] = cc (l.is, e) in
-    sym l.whole ∙ ap (λ (fs : List SlotEntry). taken_cells now (map (named_by key archive) fs)) is
-
--- nothing is refused
-pub none_refused : (s : Layout) (key : List ℕ) (archive : ℕ) (left : Result (List SlotEntry) CodecFault)
-    (x now : Recovery) (all : List NamedCell) (fault : CodecFault) → IsLeft s key archive left x now all
-    → left ≡ Err fault → ⊥
-none_refused s key archive left x now all fault l e = absurd (cc (l.is, e))
 
 -- ---- groups
 

@@ -5,7 +5,9 @@
 //! (`specs/Replaying.antt`), and takes each (`specs/Taking.antt`): its cells are joined, and its
 //! origin, its cursor or its number is kept in [`Found`]. One record is in memory at a time, and its
 //! cells are unpacked one by one. [`last_origin`] goes through a file before, so that the node can
-//! choose an origin that was never used.
+//! choose an origin that was never used. [`laws`] says that this is the join of all that the records
+//! have, that any prefix of a journal makes the map after its last whole record, and that what was
+//! synced is there, whatever a crash left behind it.
 //!
 //! ```text
 //! file ── read_record ─> record ── decode ─> groups ── Decoder ─> cell ── join_cell ─> replica
@@ -17,8 +19,8 @@ mod fault;
 mod found;
 pub mod laws;
 mod origins;
-mod reading;
 mod replaying;
+mod step;
 mod taking;
 
 pub use fault::RecoveryFault;

@@ -8,7 +8,7 @@ ghost use Rattle.rr_journal.specs.Text.{raw_of};
 ghost use Rattle.rr_recovery.specs.Replaying.{FindsOrigin, origin_after};
 
 use crate::fault::RecoveryFault;
-use crate::reading::step_from;
+use crate::step::step_from;
 use crate::taking::meaning_of;
 use rr_io::Counted;
 use rr_journal::{Cursor, RawRecord, Record, Step, Stop};

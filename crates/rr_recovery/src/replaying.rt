@@ -9,7 +9,7 @@ ghost use Rattle.rr_recovery.specs.Taking.{recovery};
 
 use crate::fault::RecoveryFault;
 use crate::found::Found;
-use crate::reading::step_from;
+use crate::step::step_from;
 use crate::taking::take_record;
 use rr_archive::Cells;
 use rr_io::Counted;
