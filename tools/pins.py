@@ -4,8 +4,8 @@
 usage: pins.py
 
 A definition that cites a constant of the code changes its meaning with it, and what is proved by it stays proved.
-So beside each such constant stands `const _: () = prove!(NAME == NUMBER);`, with the number in digits. Prints a
-line for each that lacks it, FILE: NAME, and then ends with status 1.
+So beside each such constant stands `const _: () = prove!(NAME == NUMBER);`, with the number in digits, or such a line
+for each number of a struct. Prints a line for each that lacks it, FILE: NAME, and then ends with status 1.
 """
 
 import re
@@ -16,8 +16,8 @@ from crates import TOP
 # A module of the constants of a source file, and which of them a file cites.
 CITED = re.compile(r"Rattle\.(\w+)\.specs\.declared\.([\w.]+)\.TheConstants\.\{([^}]*)\}")
 
-# A constant, pinned by a number.
-PIN = re.compile(r"const _: \(\) = prove!\((\w+) == [\d_]+\);")
+# A constant, or a number in it, pinned.
+PIN = re.compile(r"const _: \(\) = prove!\((\w+)[\w.]* == -?[\d_]+\);")
 
 
 def citing():

@@ -66,6 +66,14 @@ pub const UNCHANGED: ChangeTimes = ChangeTimes {
     late: NEVER,
 };
 
+const _: () = prove!(UNCHANGED.recent.first == 9_223_372_036_854_775_807);
+
+const _: () = prove!(UNCHANGED.recent.last == -9_223_372_036_854_775_808);
+
+const _: () = prove!(UNCHANGED.late.first == 9_223_372_036_854_775_807);
+
+const _: () = prove!(UNCHANGED.late.last == -9_223_372_036_854_775_808);
+
 impl ChangeTimes {
     /// The ranges with a time more. It widens the recent one where that is empty, or no more than so
     /// many nanoseconds from the time, or not farther from it than the late one is. Else it widens
