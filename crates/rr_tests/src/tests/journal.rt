@@ -1,0 +1,210 @@
+//! A journal's bytes, written and read, cut and changed.
+//!
+//! The bytes are those that a script in another language makes of the format.
+use rr_base::{ArchiveSpec, Counted, Origin, Schema};
+use rr_journal::{
+    Cursor, Group, JournalFault, MemoryJournal, RawRecord, Record, Step, Stop, commit, decode,
+    encode, fits_between_syncs, header_bytes, header_from, read_record,
+};
+use rr_key::SeriesKey;
+use std::alloc::Global;
+
+/// A header, at the beginning of a journal.
+const HEADER: [u8; 62] = [
+    0x52, 0x52, 0x4a, 0x4e, 0x01, 0x00, 0x00, 0x0e, 0x00, 0x00, 0x00, 0x3c, 0x01, 0x01, 0x00, 0x00,
+    0x00, 0x03, 0x00, 0x00, 0x00, 0x01, 0x00, 0x01, 0x02, 0x03, 0x04, 0x05, 0x06, 0x07, 0x08, 0x09,
+    0x0a, 0x0b, 0x0c, 0x0d, 0x0e, 0x0f, 0x00, 0x00, 0x00, 0x00, 0x00, 0x00, 0x00, 0x00, 0x00, 0x00,
+    0x00, 0x00, 0x00, 0x00, 0x00, 0x00, 0xec, 0xf1, 0xa1, 0xa8, 0x44, 0xbe, 0xb8, 0xce,
+];
+
+/// Four records: an origin, six cells and a group without one, a cursor and an end.
+pub(super) const RECORDS: [u8; 167] = [
+    0x00, 0x00, 0x00, 0x02, 0x82, 0x03, 0xe9, 0x19, 0xa2, 0xe6, 0x59, 0x9f, 0x32, 0xe5, 0xdb, 0x00,
+    0x00, 0x00, 0x49, 0x01, 0x00, 0x09, 0x63, 0x70, 0x75, 0x20, 0x76, 0x61, 0x6c, 0x75, 0x65, 0x00,
+    0x00, 0x00, 0x00, 0x20, 0x06, 0x80, 0xb0, 0x9d, 0xc2, 0xdf, 0x01, 0x83, 0x0a, 0xc8, 0x01, 0x14,
+    0x01, 0x02, 0x87, 0x0e, 0x09, 0xe8, 0x07, 0x02, 0x01, 0x02, 0x0e, 0x03, 0x02, 0x11, 0x02, 0xe1,
+    0x07, 0x01, 0x02, 0x00, 0x00, 0x10, 0x64, 0x69, 0x73, 0x6b, 0x2c, 0x68, 0x6f, 0x73, 0x74, 0x3d,
+    0x61, 0x20, 0x66, 0x72, 0x65, 0x65, 0x00, 0x00, 0x00, 0x00, 0x02, 0x00, 0x00, 0x68, 0x45, 0x15,
+    0x41, 0x67, 0x1f, 0xe3, 0x81, 0x00, 0x00, 0x00, 0x20, 0x83, 0xff, 0xff, 0xff, 0xff, 0xff, 0xff,
+    0xff, 0xff, 0xff, 0xff, 0xff, 0xff, 0xff, 0xff, 0xff, 0xff, 0x00, 0x00, 0x00, 0x00, 0x00, 0x00,
+    0x10, 0x00, 0x01, 0x02, 0x03, 0x04, 0x05, 0x06, 0x07, 0x08, 0x07, 0x48, 0x14, 0x48, 0xda, 0x0e,
+    0xc3, 0x8a, 0x00, 0x00, 0x00, 0x08, 0x04, 0x00, 0x00, 0x00, 0x00, 0x00, 0x00, 0x00, 0x06, 0x8f,
+    0x4b, 0xf2, 0xce, 0x53, 0x71, 0x55, 0x65,
+];
+
+/// The packed cells of the first group.
+const PACKED: [u8; 32] = [
+    0x06, 0x80, 0xb0, 0x9d, 0xc2, 0xdf, 0x01, 0x83, 0x0a, 0xc8, 0x01, 0x14, 0x01, 0x02, 0x87, 0x0e,
+    0x09, 0xe8, 0x07, 0x02, 0x01, 0x02, 0x0e, 0x03, 0x02, 0x11, 0x02, 0xe1, 0x07, 0x01, 0x02, 0x00,
+];
+
+/// Where each record ends.
+const ENDS: [usize; 4] = [15, 101, 146, 167];
+
+/// Three rows of a minute.
+pub(super) fn schema(alloc: Global) -> Option<Schema> {
+    let archive = ArchiveSpec {
+        steps: 1,
+        rows: 3,
+        num: 0,
+        den: 1,
+    };
+    Schema::new(alloc, 60, &[archive]).ok()
+}
+
+/// Where the journal begins.
+pub(super) fn start() -> Cursor {
+    Cursor::start([0, 1, 2, 3, 4, 5, 6, 7, 8, 9, 10, 11, 12, 13, 14, 15])
+}
+
+/// A record of the packed cells and of a group without a cell.
+fn cells(alloc: Global) -> Option<Record> {
+    let mut groups = Vec::new(alloc);
+    groups
+        .push(Group {
+            key: SeriesKey::parse_text(alloc, b"cpu value").ok()?,
+            archive: 0,
+            packed: Vec::from_slice(alloc, &PACKED).ok()?,
+        })
+        .ok()?;
+    let key = SeriesKey::parse_text(alloc, b"disk,host=a free").ok()?;
+    groups.push(Group::new(alloc, key, 0, &[]).ok()?).ok()?;
+    Some(Record::Cells(groups))
+}
+
+fn two(alloc: Global, first: &Record, second: &Record) -> Option<Vec<RawRecord>> {
+    let mut records = Vec::new(alloc);
+    records.push(encode(alloc, first).ok()?).ok()?;
+    records.push(encode(alloc, second).ok()?).ok()?;
+    Some(records)
+}
+
+/// The bytes of a journal that was written in two batches.
+fn written(alloc: Global, first: &[RawRecord], second: &[RawRecord]) -> Option<Vec<u8>> {
+    if !fits_between_syncs(first) || !fits_between_syncs(second) {
+        return None;
+    }
+    let mut cursor = start();
+    let mut bytes = header_bytes(alloc, &schema(alloc)?, &cursor).ok()?;
+    let mut journal = MemoryJournal::new(Vec::new(alloc));
+    match commit(&mut journal, &mut cursor, first) {
+        Ok(()) => (),
+        Err(_) => return None,
+    }
+    match commit(&mut journal, &mut cursor, second) {
+        Ok(()) => (),
+        Err(_) => return None,
+    }
+    bytes.extend_from_slice(journal.bytes()).ok()?;
+    Some(bytes)
+}
+
+/// The bytes of the four records after a header.
+fn all_bytes(alloc: Global) -> Option<Vec<u8>> {
+    let cursor = Cursor {
+        id: [0xff; 16],
+        offset: 4096,
+        digest: [1, 2, 3, 4, 5, 6, 7, 8],
+    };
+    let origin = Record::Origin(Origin::new(1001).ok()?);
+    let first = two(alloc, &origin, &cells(alloc)?)?;
+    let second = two(alloc, &Record::Cursor(cursor), &Record::End(6))?;
+    written(alloc, &first, &second)
+}
+
+/// The bytes that the format asks for.
+fn wanted(alloc: Global) -> Option<Vec<u8>> {
+    let mut bytes = Vec::from_slice(alloc, &HEADER).ok()?;
+    bytes.extend_from_slice(&RECORDS).ok()?;
+    Some(bytes)
+}
+
+#[test]
+fn a_journal_is_written_as_the_format_says(rt: HostRuntime) {
+    assert_eq!(rt; all_bytes(rt.alloc()), wanted(rt.alloc()));
+}
+
+/// How many records are read, each of which means something, and why no more.
+fn read(alloc: Global, bytes: &[u8]) -> Result<(usize, Option<Stop>), JournalFault> {
+    let Some(schema) = schema(alloc) else {
+        return Err(JournalFault::Memory);
+    };
+    let mut input = Counted::new(bytes);
+    let mut cursor = header_from(alloc, &mut input, &schema)?;
+    for count in 0..10 {
+        match read_record(alloc, &mut input, &mut cursor)? {
+            Step::Whole(raw) => {
+                let _record = decode(alloc, &raw, &schema)?;
+            }
+            Step::Stopped(stop) => return Ok((count, Some(stop))),
+        }
+    }
+    Ok((10, None))
+}
+
+/// How many records end within so many bytes of records.
+fn ended_within(len: usize) -> usize {
+    let mut count = 0;
+    for end in 0..ENDS.len() {
+        if ENDS[end] <= len {
+            count = end + 1;
+        }
+    }
+    count
+}
+
+/// Whether so many bytes end a record, or none.
+fn is_end(len: usize) -> bool {
+    len == 0 || ENDS.as_slice().contains(&len)
+}
+
+/// Whether a prefix of so many bytes is read as it should be.
+fn is_read(alloc: Global, bytes: &[u8], len: usize) -> bool {
+    if len > bytes.len() {
+        return false;
+    }
+    let found = read(alloc, &bytes[..len]);
+    if len < HEADER.len() {
+        return found == Err(JournalFault::Short);
+    }
+    let left = len - HEADER.len();
+    let stop = if is_end(left) { Stop::End } else { Stop::Torn };
+    found == Ok((ended_within(left), Some(stop)))
+}
+
+#[test]
+fn each_prefix_is_read_up_to_its_last_whole_record(rt: HostRuntime) {
+    let bytes = wanted(rt.alloc()).unwrap_or(Vec::new(rt.alloc()));
+    let mut right = 0u32;
+    for len in 0..=bytes.len() {
+        right = right.saturating_add(u32::from(is_read(rt.alloc(), &bytes, len)));
+    }
+    assert_eq!(rt; right, 230);
+}
+
+/// Whether a change of the byte at a place is seen: in the header it is refused, in a record the
+/// reading stops before it.
+fn is_seen(alloc: Global, bytes: &[u8], at: usize) -> bool {
+    let Ok(mut changed) = Vec::from_slice(alloc, bytes) else {
+        return false;
+    };
+    let Some(byte) = changed.get_mut(at) else {
+        return false;
+    };
+    *byte ^= 4;
+    let found = read(alloc, &changed);
+    if at < HEADER.len() {
+        return found.is_err();
+    }
+    found == Ok((ended_within(at - HEADER.len()), Some(Stop::Torn)))
+}
+
+#[test]
+fn each_changed_byte_is_seen(rt: HostRuntime) {
+    let bytes = wanted(rt.alloc()).unwrap_or(Vec::new(rt.alloc()));
+    let mut seen = 0u32;
+    for at in 0..bytes.len() {
+        seen = seen.saturating_add(u32::from(is_seen(rt.alloc(), &bytes, at)));
+    }
+    assert_eq!(rt; seen, 229);
+}
