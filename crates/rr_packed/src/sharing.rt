@@ -61,7 +61,13 @@ impl Blocks {
             at -= 1;
             let keeps_rows = self.keeps_rows(at);
             let number = self.older[at].0;
-            if !share_block(&mut self.older[at].1, self.alloc, number, others, keeps_rows) {
+            if !share_block(
+                &mut self.older[at].1,
+                self.alloc,
+                number,
+                others,
+                keeps_rows,
+            ) {
                 return;
             }
         }
