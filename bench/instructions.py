@@ -139,8 +139,8 @@ def kept():
 
 
 def grown(before, now):
-    """Whether one of these figures is above the kept ones by more than it may be."""
-    return any(one > old * (1 + GROWTH) for old, one in zip(before, now, strict=True))
+    """Whether one of these figures, to a tenth as they are kept, is above the kept ones by more than it may be."""
+    return any(round(one, 1) > old * (1 + GROWTH) for old, one in zip(before, now, strict=True))
 
 
 def told(what, found):
