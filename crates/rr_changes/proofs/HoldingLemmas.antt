@@ -1,8 +1,9 @@
 -- What a map holds that others were joined into, and updates that are joined one after the other.
-use Rattle.std.proofs.Common.{◌≡◌, true, false, cond, List, [], ◌∷◌, ◌++◌, refl, sym, ap, ◌∙◌, subst, Option, Some, None, ⊎_elim, ◌⊎◌, arith}
+use Rattle.std.proofs.Common.{◌≡◌, true, false, cond, true≢false, List, [], ◌∷◌, ◌++◌, refl, sym, ap, ◌∙◌, subst, Option, Some, None, Ordering, Less, Equal, Greater, ⊎_elim, ◌⊎◌, arith}
 use Rattle.std.specs.Prelude.{Contains}
 use Rattle.std.specs.List.{AllByRecursion}
-use Rattle.std.specs.Ordering.{eq_by_cmp}
+use Rattle.std.specs.Cmp.{tied_itself}
+use Rattle.std.specs.Ordering.{eq_by_cmp, is_le, is_lt}
 use Rattle.std.specs.FinMap.{get, insert, empty, entries, get-insert, get-empty, same_map}
 use Rattle.std.proofs.lemmas.List.Elements.{All-contains, All-from_recursion, All-weaker, Contains-append_cases, Contains-push_cases, recursion_from_All}
 use Rattle.rr_schema.specs.Schema.{Layout, IsLayout}
@@ -19,7 +20,7 @@ use Rattle.rr_cells.specs.CellNames.{CellName, cell_name_cmp, is_live}
 use Rattle.rr_cells.specs.CellBounds.{NamedCell}
 use Rattle.rr_cells.specs.Cells.{Cells, IsTrimmed}
 use Rattle.rr_cells.specs.Joins.{join, join_cell, join_cells}
-use Rattle.rr_changes.specs.Updates.{Holds, IsUpdate, Write, AreWrites, last_cells, written_cells}
+use Rattle.rr_changes.specs.Updates.{Holds, IsUpdate, Write, AreWrites, is_at_least, last_cells, written_cells}
 use Rattle.rr_changes.specs.UpdateLaws.{UpdateMakesTheCells, UpdatesBringAll, UpdatesMakeTheLast}
 use Rattle.rr_cells.proofs.Orders.{cell_name_cmp_total, cell_name_cmp-IsAntisymmetric}
 use Rattle.rr_cells.proofs.Horizon.{live_horizon}
@@ -79,11 +80,22 @@ pub update_makes_the_cells : UpdateMakesTheCells
 update_makes_the_cells s before m update is has since =
     update_joins s before m update since ∙ join_commutes s before m is ∙ has
 
--- a map holds each cell that it has
-join_own : (s : Layout) (m : Cells) (n : CellName) (c : Contribution) → IsTrimmed s m → get m n ≡ Some c
-    → Holds s m (insert empty n c)
+-- the greater of what is there and of what is no greater is what is there
+greater_there : (o : Option Contribution) (c : Contribution) → is_at_least o c ≡ true
+    → greater contribution_cmp o (Some c) ≡ o
+greater_there None c h = absurd (true≢false (sym h))
+greater_there (Some d) c h = ap (λ (v : Contribution). Some v) (elim (contribution_cmp c d) as
+    (λ r. contribution_cmp c d ≡ r → cond (is_lt r) d c ≡ d) [
+      | Less ↦ λ e. refl
+      | Equal ↦ λ e. contribution_cmp-IsAntisymmetric c d e
+      | Greater ↦ λ e. absurd (true≢false (sym h ∙ ap is_le e))
+    ] refl)
+
+-- a map holds each cell at whose name it has no less
+pub join_held_cell : (s : Layout) (m : Cells) (n : CellName) (c : Contribution) → IsTrimmed s m
+    → is_at_least (get m n) c ≡ true → Holds s m (insert empty n c)
 unfolding Maps.joined
-join_own s m n c kept e =
+join_held_cell s m n c kept h =
     ap (trimmed (is_live s)) (same_map cell_name_cmp_total cell_name_cmp-IsAntisymmetric
     (merged contribution_cmp m (insert empty n c)) m (λ q.
     get-merged cell_name_cmp_total cell_name_cmp-IsAntisymmetric contribution_cmp m (insert empty n c) q
@@ -92,11 +104,17 @@ join_own s m n c kept e =
     ∙ elim (eq_by_cmp cell_name_cmp q n) as (λ b. eq_by_cmp cell_name_cmp q n ≡ b
     → greater contribution_cmp (get m q) (cond b (Some c) None) ≡ get m q) [
       | true ↦ λ t.
-          let here = ap (get m) (same_from_tie cell_name_cmp_total cell_name_cmp-IsAntisymmetric q n t) ∙ e in
-          ap (greater contribution_cmp (get m q)) (sym here) ∙ greater_itself contribution_cmp_total (get m q)
+          let same = same_from_tie cell_name_cmp_total cell_name_cmp-IsAntisymmetric q n t in
+          greater_there (get m q) c (ap (λ x. is_at_least (get m x) c) same ∙ h)
       | false ↦ λ t. greater-None contribution_cmp (get m q)
     ] refl))
     ∙ kept
+
+-- so each cell that it has
+join_own : (s : Layout) (m : Cells) (n : CellName) (c : Contribution) → IsTrimmed s m → get m n ≡ Some c
+    → Holds s m (insert empty n c)
+join_own s m n c kept e = join_held_cell s m n c kept (ap (λ o. is_at_least o c) e
+    ∙ ap is_le (tied_itself contribution_cmp_total c))
 
 -- ---- what is held
 

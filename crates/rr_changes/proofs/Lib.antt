@@ -1,4 +1,5 @@
 pub mod HoldingLemmas
+pub mod HeldLemmas
 pub mod AddingLemmas
 pub mod CoveredLemmas
 pub mod TrackingLemmas
@@ -7,3 +8,4 @@ pub mod FilterLemmas
 pub mod SlotLemmas
 pub mod WithinLemmas
 pub mod BatchLemmas
+pub mod WalkingLemmas

@@ -220,6 +220,20 @@ module _ {A : Type 0} where
       ap (λ (w : A). Some w) (sym same) ∙ at
   prefix_has (z ∷ xs) (y ∷ ys) (suc i) x p at = prefix_has xs ys i x (p.0, cc (p.1)) at
 
+-- with keys that grow they are tracked still
+pub still_tracked : (keys more : List (List ℕ)) (c d : ChangedState) → IsPrefix keys more
+    → ((j : ℕ) → times_of d j ≡ times_of c j) → (ops : List Op) (h : ReplicaState)
+    → AreTracked keys c h ops → AreTracked more d h ops
+still_tracked keys more c d grow same [] h all = tt
+still_tracked keys more c d grow same (o ∷ ops) h all = (
+  ⊎_elim (λ is. inl (record {
+    number = is.number;
+    key = prefix_has keys more is.number (op_key o) grow is.key;
+    time = ap (λ (ps : ChangeTimes). is_in_times ps (op_time o)) (same is.number) ∙ is.time;
+  })) (λ none. inr none) all.0,
+  still_tracked keys more c d grow same ops (step h o) all.1,
+)
+
 -- with keys that grow and ranges that widen they are tracked still, and one more is or changes nothing
 more_tracked : (keys more : List (List ℕ)) (c d : ChangedState) (op : Op) → IsPrefix keys more
     → ((j : ℕ) (time : ℤ) → is_in_times (times_of c j) time ≡ true → is_in_times (times_of d j) time ≡ true)

@@ -4,3 +4,4 @@ pub mod ChangeTimes
 pub mod Tracking
 pub mod Changes
 pub mod ChangeLaws
+pub mod Held

@@ -1,9 +1,11 @@
 -- The laws of updates, each the contract of a function of `src/laws.rt`.
-use Rattle.std.specs.Prelude.{◌≡◌, ◌⊎◌, ◌<◌, List, ◌++◌, length, fold, Some, All, Contains}
+use Rattle.std.specs.Prelude.{◌≡◌, ◌⊎◌, ◌<◌, true, List, ◌++◌, length, fold, Some, All, Contains}
 use Rattle.std.specs.FinMap.{get}
 use Rattle.rr_schema.specs.Schema.{Layout, IsLayout}
 use Rattle.rr_contrib.specs.declared.contribution.Contribution.{Contribution}
+use Rattle.rr_cells.specs.declared.cell.Cell.{Cell}
 use Rattle.rr_cells.specs.declared.op.Op.{Op}
+use Rattle.rr_cells.specs.declared.op.Op.TheVariants.{Join}
 use Rattle.rr_cells.specs.CellNames.{CellName}
 use Rattle.rr_cells.specs.CellBounds.{NamedCell}
 use Rattle.rr_cells.specs.Samples.{Sample, name_of}
@@ -11,9 +13,10 @@ use Rattle.rr_cells.specs.Cells.{Cells, IsTrimmed}
 use Rattle.rr_cells.specs.Puts.{put_sample}
 use Rattle.rr_cells.specs.Joins.{join, join_cell, join_cells}
 use Rattle.rr_cells.specs.Laws.{mark_in}
+use Rattle.rr_cells.specs.Listing.{owned_cell}
 use Rattle.rr_cells.specs.ReplicaState.{ReplicaState, IsReplicaState}
 use Rattle.rr_cells.specs.Operations.{step, outcome_of, AllAccepted}
-use Rattle.rr_changes.specs.Updates.{GoesOn, Holds, IsUpdate, Write, AreWrites, last_cells, written_cells, IsPlaceOf}
+use Rattle.rr_changes.specs.Updates.{GoesOn, Holds, IsUpdate, Write, AreWrites, is_held, last_cells, written_cells, IsPlaceOf}
 
 -- ---- updates
 
@@ -81,3 +84,9 @@ OperationChangesItsPlace =
     (h : ReplicaState) (op : Op) (n : CellName) (c : Contribution) → GoesOn h
     → get (step h op).cells n ≡ Some c
     → (get h.cells n ≡ Some c) ⊎ IsPlaceOf h.schema op n
+
+-- a joined cell that is held already changes no cell
+abbrev pub HeldCellsChangeNothing : Type 0
+HeldCellsChangeNothing =
+    (h : ReplicaState) (c : Cell) → GoesOn h → is_held h.cells (owned_cell c) ≡ true
+    → (step h (Join c)).cells ≡ h.cells

@@ -1,8 +1,10 @@
 -- Updates: parts of a map of cells that have all that was added to it since an earlier moment.
-use Rattle.std.specs.Prelude.{◌≡◌, ◌⊎◌, ℤ, ◌<◌, List, [], ◌∷◌, ◌++◌, Some}
+use Rattle.std.specs.Prelude.{◌≡◌, ◌⊎◌, ℤ, ◌<◌, Bool, false, List, [], ◌∷◌, ◌++◌, Option, None, Some}
 use Rattle.std.specs.FinMap.{get, entries}
+use Rattle.std.specs.Ordering.{is_le}
 use Rattle.rr_schema.specs.Schema.{Layout, IsLayout, slot_of}
 use Rattle.rr_contrib.specs.declared.contribution.Contribution.{Contribution}
+use Rattle.rr_contrib.specs.Contributions.{contribution_cmp}
 use Rattle.rr_cells.specs.declared.op.Op.{Op}
 use Rattle.rr_cells.specs.declared.op.Op.TheVariants.{Put, Join}
 use Rattle.rr_cells.specs.CellNames.{CellName}
@@ -15,6 +17,15 @@ use Rattle.rr_cells.specs.ReplicaState.{ReplicaState}
 -- x holds all that m holds: to join m to it changes nothing
 abbrev pub Holds : Layout → Cells → Cells → Type 0
 Holds s x m = join s x m ≡ x
+
+-- whether what is at a name is no less than this
+abbrev pub is_at_least : Option Contribution → Contribution → Bool
+is_at_least None c = false
+is_at_least (Some d) c = is_le (contribution_cmp c d)
+
+-- whether a cell is held already: one of its name is there that contributes no less
+abbrev pub is_held : Cells → NamedCell → Bool
+is_held m e = is_at_least (get m e.0) e.1
 
 -- each cell of the update is a cell of now, and each cell of now is one of before or of the update
 pub record IsUpdate (before now update : Cells) : Type 0 where

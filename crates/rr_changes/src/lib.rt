@@ -8,24 +8,29 @@
 //!
 //! [`ChangeTracker`] tracks them: at most two [`TimeRange`]s a series (`specs/Tracking.antt`).
 //! Before an operation is applied it is made `ready` for its series, and after that `track` can't
-//! fail. To write what changed, its `series` are listed in the order of their keys, and
+//! fail. A joined cell that [`is_held`] already changes nothing, and isn't tracked. To write what changed, its `series` are listed in the order of their keys, and
 //! [`next_changes`] gives the cells in the slots of their ranges, so many at a time, each call after
 //! the last cell of the one before, until fewer come (`specs/Changes.antt`). Once they are written,
-//! it is cleared; if they aren't, the next list has them again. [`laws`] say what the cells of all
+//! it is cleared; if they aren't, the next list has them again. [`next_cells`] gives all cells in the
+//! same way, for a checkpoint. [`laws`] say what the cells of all
 //! calls come to.
 #![tactic(auto)]
 
 mod by_key;
 mod change_tracker;
 mod changed_series;
+mod held;
 pub mod laws;
 mod listing;
 mod slots;
 mod time;
 mod time_range;
+mod walking;
 
 pub use change_tracker::ChangeTracker;
 pub use changed_series::ChangedSeries;
+pub use held::is_held;
 pub use listing::next_changes;
 pub use time::op_time;
 pub use time_range::{ChangeTimes, NEVER, TimeRange, UNCHANGED};
+pub use walking::next_cells;

@@ -1,5 +1,5 @@
 //! Updates, and where operations change cells.
-ghost use Rattle.rr_changes.specs.UpdateLaws.{ReplicasGoOn, OperationsGoOn, OperationsOnlyAdd, UpdateMakesTheCells, UpdateMakesTheOutcome, UpdatesBringAll, UpdatesMakeTheLast, PutChangesItsCells, JoinChangesItsCell, OperationChangesItsPlace};
+ghost use Rattle.rr_changes.specs.UpdateLaws.{ReplicasGoOn, OperationsGoOn, OperationsOnlyAdd, UpdateMakesTheCells, UpdateMakesTheOutcome, UpdatesBringAll, UpdatesMakeTheLast, PutChangesItsCells, JoinChangesItsCell, OperationChangesItsPlace, HeldCellsChangeNothing};
 
 /// What operations need of a replica so that they only add holds of each, and after each of them.
 pub fn replicas_go_on()
@@ -17,9 +17,11 @@ pub fn updates_bring_all()
     ensures last { UpdatesMakeTheLast }
 {}
 
-/// An operation changes cells of its key alone, in the slots of its time.
+/// An operation changes cells of its key alone, in the slots of its time; a joined cell that is held
+/// already changes none.
 pub fn operations_change_their_places()
     ensures puts { PutChangesItsCells }
     ensures joins { JoinChangesItsCell }
     ensures places { OperationChangesItsPlace }
+    ensures held { HeldCellsChangeNothing }
 {}
