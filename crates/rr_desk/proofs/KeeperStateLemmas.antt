@@ -1,5 +1,5 @@
 -- What a keeper keeps to: the published copy, its own replica and the book beside each other.
-use Rattle.std.proofs.Common.{◌≡◌, Bool, true, false, List, [], ◌∷◌, ◌++◌, fold, append_assoc, append-nil, refl, sym, ap, ◌∙◌, subst}
+use Rattle.std.proofs.Common.{◌≡◌, ℕ, Bool, true, false, List, [], ◌∷◌, ◌++◌, fold, append_assoc, append-nil, refl, sym, ap, ◌∙◌, subst}
 use Rattle.std.proofs.lemmas.List.Sums.{fold-append}
 use Rattle.logbook.specs.Pages.{Book}
 use Rattle.rr_schema.specs.Schema.{Layout}
@@ -241,7 +241,8 @@ keeper-unmarked v x n own prefix all new cs more ended k desk begins same =
 
 -- the keeper's own replica holds what all operations make
 pub own-state : (v : View) (shown : ReplicaState) (n : Names) (own : ReplicaState) (prefix all : BookPrefix)
-    (cs : List Change) (ended : Bool) (b : Book) (k : KeeperState) → IsKeeper v shown n own prefix all cs ended
+    (cs : List Change) (ended : Bool) (b : Book) (written : ℕ) (k : KeeperState)
+    → IsKeeper v shown n own prefix all cs ended
     → record {
       desk = b;
       schema = own.schema;
@@ -250,13 +251,15 @@ pub own-state : (v : View) (shown : ReplicaState) (n : Names) (own : ReplicaStat
       published = v.seen;
       pending =
           ops_in n cs;
+      written = written;
     } ≡ k → own ≡ own_replica k
-own-state v shown n own prefix all cs ended b k keeps is =
+own-state v shown n own prefix all cs ended b written k keeps is =
     let e = tied-cells v shown own (ops_in n cs) keeps.tied in
     (λ i. record { schema = own.schema; origin = own.origin; next = own.next; cells = e i }) ∙ ap own_replica is
 
 pub cells-state : (v : View) (shown : ReplicaState) (n : Names) (own : ReplicaState) (prefix all : BookPrefix)
-    (cs : List Change) (ended : Bool) (b : Book) (k : KeeperState) → IsKeeper v shown n own prefix all cs ended
+    (cs : List Change) (ended : Bool) (b : Book) (written : ℕ) (k : KeeperState)
+    → IsKeeper v shown n own prefix all cs ended
     → record {
       desk = b;
       schema = own.schema;
@@ -265,14 +268,15 @@ pub cells-state : (v : View) (shown : ReplicaState) (n : Names) (own : ReplicaSt
       published = v.seen;
       pending =
           ops_in n cs;
+      written = written;
     } ≡ k → own.cells ≡ cells_of k
-cells-state v shown n own prefix all cs ended b k keeps is =
-    ap (λ (h : ReplicaState). h.cells) (own-state v shown n own prefix all cs ended b k keeps is)
+cells-state v shown n own prefix all cs ended b written k keeps is =
+    ap (λ (h : ReplicaState). h.cells) (own-state v shown n own prefix all cs ended b written k keeps is)
 
 -- with one operation more that is pending
 pub push-state : (k : KeeperState) (new : ReplicaState) (op : Op) (b : Book) (published pending : List Op)
-    → accepts (own_replica k) op ≡ true → new ≡ step (own_replica k) op → b ≡ k.desk → published ≡ k.published
-    → pending ≡ k.pending ++ op ∷ []
+    (written : ℕ) → accepts (own_replica k) op ≡ true → new ≡ step (own_replica k) op → b ≡ k.desk
+    → published ≡ k.published → pending ≡ k.pending ++ op ∷ [] → written ≡ k.written
     → record {
       desk = b;
       schema = new.schema;
@@ -281,8 +285,9 @@ pub push-state : (k : KeeperState) (new : ReplicaState) (op : Op) (b : Book) (pu
       published = published;
       pending =
           pending;
+      written = written;
     } ≡ with_pending k op
-push-state k new op b published pending may is desk seen more =
+push-state k new op b published pending written may is desk seen more same =
     let h = own_replica k in
     let schema : new.schema ≡ k.schema = ap (λ (x : ReplicaState). x.schema) is ∙ step-schema h op in
     let origin : new.origin ≡ k.origin = ap (λ (x : ReplicaState). x.origin) is ∙ step-origin h op in
@@ -295,6 +300,7 @@ push-state k new op b published pending may is desk seen more =
       published = seen i;
       pending =
           more i;
+      written = same i;
     }
 
 -- the keeper's own replica has the origin of the copies

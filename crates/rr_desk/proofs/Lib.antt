@@ -4,6 +4,7 @@ pub mod ChangesLemmas
 pub mod NamingLemmas
 pub mod RuleLemmas
 pub mod KeeperStateLemmas
+pub mod UnwrittenLemmas
 pub mod GateLemmas
 pub mod PointsLemmas
 pub mod PastHorizonLemmas

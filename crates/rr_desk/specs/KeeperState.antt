@@ -1,5 +1,5 @@
 -- What contracts see of a keeper, and what it keeps to.
-use Rattle.std.specs.Prelude.{◌≡◌, ℕ, Bool, true, List, [], ◌∷◌, ◌++◌, fold}
+use Rattle.std.specs.Prelude.{◌≡◌, ℕ, Bool, true, List, [], ◌∷◌, ◌++◌, fold, length, take}
 use Rattle.logbook.specs.Pages.{Book}
 use Rattle.rr_schema.specs.Schema.{Layout}
 use Rattle.rr_cells.specs.declared.op.Op.{Op}
@@ -12,7 +12,7 @@ use Rattle.rr_desk.specs.Changes.{Names, ops_in, prefix_after}
 use Rattle.rr_desk.specs.Editions.{BookPrefix, flat, Begins}
 
 -- a keeper: its desk; the schema, origin and next number of its own replica; the operations that are published, and
--- those that are pending
+-- those that are pending; and how many of all, from the first on, are written
 pub record KeeperState : Type 0 where
   pub desk : Book
   pub schema : Layout
@@ -20,10 +20,15 @@ pub record KeeperState : Type 0 where
   pub next : ℕ
   pub published : List Op
   pub pending : List Op
+  pub written : ℕ
 
 -- the cells that all of its operations make
 abbrev pub cells_of : KeeperState → Cells
 cells_of k = outcome_of k.schema (k.published ++ k.pending)
+
+-- and those that the written ones make
+abbrev pub written_cells : KeeperState → Cells
+written_cells k = outcome_of k.schema (take k.written (k.published ++ k.pending))
 
 -- what its own replica holds
 abbrev pub own_replica : KeeperState → ReplicaState
@@ -38,6 +43,7 @@ with_pending k op = record {
   next = (with_op (own_replica k) op).next;
   published = k.published;
   pending = k.pending ++ op ∷ [];
+  written = k.written;
 }
 
 -- with all that is pending published
@@ -49,9 +55,22 @@ with_all_published k = record {
   next = k.next;
   published = k.published ++ k.pending;
   pending = [];
+  written = k.written;
 }
 
--- a keeper that has opened a desk with what a replica holds
+-- with all that it has written
+abbrev pub with_all_written : KeeperState → KeeperState
+with_all_written k = record {
+  desk = k.desk;
+  schema = k.schema;
+  origin = k.origin;
+  next = k.next;
+  published = k.published;
+  pending = k.pending;
+  written = length (k.published ++ k.pending);
+}
+
+-- a keeper that has opened a desk with what a replica holds, which counts as written
 abbrev pub keeper_at_opening : ReplicaState → Book → KeeperState
 keeper_at_opening h b = record {
   desk = b;
@@ -61,6 +80,7 @@ keeper_at_opening h b = record {
   published =
       joins_of h.cells;
   pending = [];
+  written = length (joins_of h.cells);
 }
 
 -- ---- what keepers keep to

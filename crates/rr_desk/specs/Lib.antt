@@ -2,6 +2,8 @@ pub mod Editions
 pub mod Changes
 pub mod Rule
 pub mod KeeperState
+pub mod Unwritten
+pub mod Written
 pub mod Writers
 pub mod ReaderState
 pub mod Joining

@@ -5,6 +5,7 @@ ghost use Rattle.left_right.specs.Sides.{view};
 ghost use Rattle.rr_cells.specs.Operations.{outcome_of};
 ghost use Rattle.rr_replica.specs.Keys.{keys_after, lent_key};
 ghost use Rattle.rr_replica.specs.ReplicaWithRoom.{replica_state};
+ghost use Rattle.rr_changes.specs.Changes.{name_in, next_of};
 ghost use Rattle.rr_delta.specs.Names.{owned_name};
 ghost use Rattle.rr_delta.specs.Difference.{IsSummary, newer_cells};
 ghost use Rattle.rr_delta.specs.Listed.{ListsCells};
@@ -19,6 +20,7 @@ use crate::read_handle::JoinedHandle;
 use crate::rule::Enters;
 use rr_archive::Cells;
 use rr_cells::Cell;
+use rr_changes::next_cells;
 use rr_delta::{Name, difference};
 use rr_fetch::{Request, answer_text};
 use rr_key::SeriesKey;
@@ -100,6 +102,28 @@ pub fn lacking<A: Cells>(
                 (JoinedHandle { inner }, cells)
             }
         },
+        Err(inner) => (JoinedHandle { inner }, Err(AllocError)),
+    }
+}
+
+/// The next cells of the copy that is shown, after one or from the first on, as many as `limit`.
+pub fn walked<A: Cells>(
+    handle: JoinedHandle<A>,
+    alloc: Global,
+    after: Option<&Cell>,
+    limit: usize,
+) -> (JoinedHandle<A>, Result<Vec<Cell>, AllocError>)
+    ensures { Reads (view handle.inner.place) (view result.0.inner.place)
+        (ListsCells (view handle.inner.place).schema (next_of limit (name_in after.entry)
+        (entries (outcome_of (view handle.inner.place).schema
+        (view result.0.inner.place).seen))) result.1) }
+{
+    match handle.inner.enter_as::<Enters>() {
+        Ok(guard) => {
+            let cells = next_cells(alloc, &guard.get().replica, after, limit);
+            let inner = guard.leave();
+            (JoinedHandle { inner }, cells)
+        }
         Err(inner) => (JoinedHandle { inner }, Err(AllocError)),
     }
 }

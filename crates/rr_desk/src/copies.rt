@@ -1,12 +1,15 @@
 //! A keeper's replica beside its two published copies.
-ghost use Rattle.std.specs.Prelude.{◌≡◌, [], true, OnErr, OnOk};
+ghost use Rattle.std.specs.Prelude.{◌≡◌, [], true, IfOk, OnErr, OnOk};
 ghost use Rattle.left_right.specs.Sides.{view};
 ghost use Rattle.rr_cells.specs.ReplicaState.{IsReplicaState};
 ghost use Rattle.rr_cells.specs.Operations.{accepts, joins_of};
 ghost use Rattle.rr_replica.specs.ReplicaWithRoom.{replica_state};
+ghost use Rattle.rr_changes.specs.Tracking.{AreInOrder};
 ghost use Rattle.rr_desk.specs.Editions.{flat};
 ghost use Rattle.rr_desk.specs.Rule.{keeper_of};
-ghost use Rattle.rr_desk.specs.KeeperState.{cells_of, own_replica, keeper_at_opening, with_all_published, with_pending};
+ghost use Rattle.rr_desk.specs.KeeperState.{cells_of, own_replica, keeper_at_opening, with_all_published, with_all_written, with_pending};
+ghost use Rattle.rr_desk.specs.Unwritten.{may_change};
+ghost use Rattle.rr_desk.specs.Written.{CoverChanges};
 ghost use Rattle.rr_desk.specs.Writers.{changes};
 ghost use Rattle.rr_replica.specs.Becomes.{Becomes};
 
@@ -15,15 +18,28 @@ use crate::change::Change;
 use crate::naming::name_keys;
 use crate::sampling::shares_rows;
 use crate::shown::{CopyState, Shown};
+use crate::unwritten::Unwritten;
 use crate::writing::{DeskWriter, end_edition, publish};
 use core::mem::replace_with;
 use left_right::Absorb;
 use rr_archive::Cells;
 use rr_cells::Op;
+use rr_changes::{ChangedSeries, is_held};
 use rr_replica::{Hint, Replica};
 use std::alloc::{AllocError, Global};
 use std::marker::Model;
 use std::sync::Wait;
+
+/// Whether an operation may change cells of a replica: joining a cell that is held already doesn't.
+fn may_change<A: Cells>(replica: &Replica<A>, op: &Op) -> bool
+    requires { accepts (replica_state replica.now) op.now ≡ true }
+    ensures { result ≡ may_change replica.now.cells op.now }
+{
+    match op {
+        Op::Put(_) => true,
+        Op::Join(cell) => !is_held(replica, cell),
+    }
+}
 
 /// A keeper's replica, with all operations, published or pending, and the two copies that readers
 /// read in turn, with what is published.
@@ -39,6 +55,8 @@ where
     book: Editions,
     /// How many of the keeper's keys the copies have after the pending changes: the first ones.
     named: usize,
+    /// What isn't written yet.
+    unwritten: Unwritten,
     /// Whether the last pending operation is followed by the end of an edition that has all of
     /// them.
     ended: bool,
@@ -48,6 +66,7 @@ impl<A: Cells> Model for Copies<A>
 where
     Shown<A>: Absorb<Change, State = CopyState>,
 {
+    ghost use Rattle.std.specs.Prelude.{◌-◌, length};
     ghost use Rattle.rr_desk.specs.KeeperState.{KeeperState, IsKeeper};
 
     ghost Value = { KeeperState };
@@ -55,7 +74,8 @@ where
     ghost use Rattle.left_right.specs.Sides.{view as handle_view};
     ghost use Rattle.rr_replica.specs.ReplicaWithRoom.{replica_state};
     ghost use Rattle.rr_desk.specs.Changes.{AreNamed};
-    ghost use Rattle.rr_desk.specs.Writers.{changes, pending_ops, shown_names};
+    ghost use Rattle.rr_desk.specs.Unwritten.{IsUnwritten};
+    ghost use Rattle.rr_desk.specs.Writers.{all_ops, changes, pending_ops, shown_names};
 
     ghost view = { λ k. record {
       desk = (handle_view k.writer.desk.place).desk;
@@ -64,13 +84,15 @@ where
       next = k.own.next;
       published = (handle_view k.writer.desk.place).seen;
       pending = pending_ops k.writer;
+      written = length (all_ops k.writer) - k.unwritten.count;
     } };
 
     ghost invariant = { λ k. IsKeeper (handle_view k.writer.desk.place)
         (replica_state k.writer.desk.shown.value.replica)
         (shown_names k.writer) (replica_state k.own)
         k.writer.desk.shown.value.prefix k.book (changes k.writer) k.ended
-        × AreNamed (shown_names k.writer) k.own.keys (changes k.writer) k.named };
+        × AreNamed (shown_names k.writer) k.own.keys (changes k.writer) k.named
+        × IsUnwritten (replica_state k.own) k.own.keys k.unwritten (all_ops k.writer) };
 }
 
 impl<A: Cells> Copies<A> {
@@ -86,12 +108,14 @@ impl<A: Cells> Copies<A> {
         ensures { result ≡ keeper_at_opening (replica_state own) book.desk }
     {
         let named = own.key_count();
+        let unwritten = Unwritten::new(alloc, own.schema());
         Copies {
             alloc,
             writer,
             own,
             book,
             named,
+            unwritten,
             ended: false,
         }
     }
@@ -137,15 +161,33 @@ impl<A: Cells> Copies<A> {
         requires { accepts (own_replica self.old) op.now ≡ true }
         ensures state { Becomes self.old (with_pending self.old op.now) self.new result }
     {
+        let changes = may_change(&self.own, op);
         let series = self.own.ready_series(hint, op)?;
+        self.unwritten.ready(series)?;
         name_keys(&mut self.writer, &self.own, &mut self.named)?;
         let change = Change::of(self.alloc, series, op)?;
         if self.writer.append(change).is_err() {
             return Err(AllocError);
         }
         self.own.apply_numbered(series, op)?;
+        self.unwritten.add(series, op, changes);
         self.ended = false;
         Ok(())
+    }
+
+    /// The series that have changed since what is written, in the order of their keys.
+    pub fn changed_series(&self, alloc: Global) -> Result<Vec<ChangedSeries>, AllocError>
+        ensures ascending { IfOk result (λ series. AreInOrder series.items) }
+        ensures changes { IfOk result (λ series. CoverChanges self.now series.items) }
+    {
+        self.unwritten.tracker.series(alloc, &self.own)
+    }
+
+    /// Takes all operations as written.
+    pub fn changes_written(&mut self)
+        ensures { self.new ≡ with_all_written self.old }
+    {
+        self.unwritten.clear();
     }
 
     /// Shows readers all pending operations, at one step. It waits for readers that are still in
@@ -181,6 +223,7 @@ impl<A: Cells> Copies<A> {
             own,
             book: _,
             named: _,
+            unwritten: _,
             ended: _,
         } = self;
         drop(writer.take(rt));

@@ -1,5 +1,5 @@
 //! The keeper of a desk, which alone writes.
-ghost use Rattle.std.specs.Prelude.{◌≡◌, ◌<◌, ◌↔◌, Err, map, take, drop};
+ghost use Rattle.std.specs.Prelude.{◌≡◌, ◌<◌, ◌↔◌, Err, IfOk, map, take, drop, vec_len};
 ghost use Rattle.std.specs.FinMap.{entries, len};
 ghost use Rattle.std.specs.Io.KnownBytes.{Keeps};
 ghost use Rattle.rr_io.specs.Counted.{inner_of};
@@ -9,7 +9,9 @@ ghost use Rattle.rr_cells.specs.Listing.{at_most_usize, owned_cell};
 ghost use Rattle.rr_cells.specs.declared.op.Op.TheVariants.{Join};
 ghost use Rattle.rr_replica.specs.ReplicaWithRoom.{replica_state};
 ghost use Rattle.rr_replica.specs.Horizon.{keeps};
-ghost use Rattle.rr_delta.specs.Listed.{ListsNames};
+ghost use Rattle.rr_changes.specs.Changes.{changes_among, name_in as after_name, next_of};
+ghost use Rattle.rr_changes.specs.Tracking.{AreInOrder};
+ghost use Rattle.rr_delta.specs.Listed.{ListsCells, ListsNames};
 ghost use Rattle.rr_delta.specs.Names.{name_in, named_version, versions_of};
 ghost use Rattle.rr_delta.specs.Summaries.{cells_after};
 ghost use Rattle.rr_page.specs.Version.{latest};
@@ -18,7 +20,8 @@ ghost use Rattle.rr_snapshot.specs.Snapshot.{snapshot_text};
 ghost use Rattle.rr_snapshot.specs.declared.heading.TheConstants.{MAX_SNAPSHOT_CELLS};
 ghost use Rattle.rr_desk.specs.PastHorizon.{past_horizon_of};
 ghost use Rattle.rr_desk.specs.Points.{with_put};
-ghost use Rattle.rr_desk.specs.KeeperState.{cells_of, own_replica, with_all_published, with_pending};
+ghost use Rattle.rr_desk.specs.KeeperState.{cells_of, own_replica, with_all_published, with_all_written, with_pending};
+ghost use Rattle.rr_desk.specs.Written.{CoverChanges};
 ghost use Rattle.rr_replica.specs.Becomes.{Becomes};
 ghost use Rattle.rr_replica.specs.Calls.{PutsNext};
 
@@ -30,6 +33,7 @@ use crate::shown::{CopyState, Shown};
 use left_right::Absorb;
 use rr_archive::Cells;
 use rr_cells::{Cell, Op, Sample};
+use rr_changes::{ChangedSeries, next_changes};
 use rr_delta::{Name, summary, summary_after};
 use rr_io::Counted;
 use rr_key::SeriesKey;
@@ -235,6 +239,48 @@ impl<A: Cells> Keeper<A> {
             → Keeps (W.contents (inner_of output.old)) (W.contents (inner_of output.new)) }
     {
         rr_snapshot::save(alloc, self.copies.replica(), output)
+    }
+
+    /// The series that have changed since what is written, each with the ranges of times in which it
+    /// did, in the order of their keys: [`Keeper::changes`] gives their cells. A series of which
+    /// cells were joined that were held already hasn't changed.
+    ///
+    /// What is written is all that a desk is opened with, and what [`Keeper::changes_written`] was
+    /// called for. The cost is linear in the series that changed, times their logarithm.
+    pub fn changed_series(&self, alloc: Global) -> Result<Vec<ChangedSeries>, AllocError>
+        ensures ascending { IfOk result (λ series. AreInOrder series.items) }
+        ensures changes { IfOk result (λ series. CoverChanges self.now series.items) }
+    {
+        self.copies.changed_series(alloc)
+    }
+
+    /// The next changes: of the live cells of these series, in the slots of their ranges, those that
+    /// come first after a cell in the order of names, or first of all; as many as `limit`, and fewer
+    /// only where there are no more. They are those of all operations, pending ones too. The keys of
+    /// the series strictly ascend. The cost is that of [`rr_changes::next_changes`].
+    pub fn changes(
+        &self,
+        alloc: Global,
+        series: &[ChangedSeries],
+        after: Option<&Cell>,
+        limit: usize,
+    ) -> Result<Vec<Cell>, AllocError>
+        requires { AreInOrder series.now }
+        ensures next { ListsCells self.now.schema (next_of limit (after_name after.entry)
+            (changes_among self.now.schema series.now (entries (cells_of self.now)))) result }
+        ensures end { IfOk result (λ cells. vec_len cells < limit → map owned_cell cells.items
+            ≡ cells_after (after_name after.entry)
+            (changes_among self.now.schema series.now (entries (cells_of self.now)))) }
+    {
+        next_changes(alloc, self.copies.replica(), series, after, limit)
+    }
+
+    /// Says that the changes are written: whoever has what was written holds what the keeper holds.
+    /// The cost is linear in the series that changed.
+    pub fn changes_written(&mut self)
+        ensures { self.new ≡ with_all_written self.old }
+    {
+        self.copies.changes_written();
     }
 
     /// Shows readers all pending operations, at one step. It waits for readers that are still in

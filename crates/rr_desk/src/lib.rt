@@ -44,6 +44,7 @@ mod sampling;
 mod shown;
 mod sides;
 mod started;
+mod unwritten;
 mod writing;
 
 pub use fault::{FetchFault, OpenFault};

@@ -4,6 +4,7 @@ ghost use Rattle.std.specs.FinMap.{entries};
 ghost use mathlib.Core.List.{IsPrefix};
 ghost use Rattle.rr_schema.specs.Schema.{IsLayout};
 ghost use Rattle.rr_replica.specs.Keys.{keys_after, lent_key};
+ghost use Rattle.rr_changes.specs.Changes.{name_in, next_of};
 ghost use Rattle.rr_delta.specs.Names.{owned_name};
 ghost use Rattle.rr_delta.specs.Difference.{IsSummary, newer_cells};
 ghost use Rattle.rr_delta.specs.Listed.{ListsCells};
@@ -12,7 +13,7 @@ ghost use Rattle.rr_fetch.specs.Requests.{request_view, IsFetchable};
 ghost use Rattle.rr_desk.specs.ReaderState.{cells_seen, AnswersSeen};
 ghost use Rattle.rr_desk.specs.Gate.{LetsPass};
 
-use crate::answers::{answer, lacking, listed};
+use crate::answers::{answer, lacking, listed, walked};
 use crate::fault::FetchFault;
 use crate::gate::Gate;
 use crate::note::Note;
@@ -141,6 +142,28 @@ impl<A: Cells> Reader<A> {
             unreachable!();
         };
         let (handle, cells) = lacking(handle, alloc, summary);
+        self.handle = Some(handle);
+        cells
+    }
+
+    /// The next cells: those that come first after a cell in the order of names, or first of all; as
+    /// many as `limit`, and fewer only where there are no more. They are those after the operations
+    /// that the reader has seen when the call returns. So a checkpoint is written from one call to
+    /// the next, each after the last cell of the one before, while the keeper goes on: the cost is
+    /// that of [`rr_changes::next_cells`], for which alone the keeper may wait.
+    pub fn cells_after(
+        &mut self,
+        alloc: Global,
+        after: Option<&Cell>,
+        limit: usize,
+    ) -> Result<Vec<Cell>, AllocError>
+        ensures { AnswersSeen self.old self.new (ListsCells self.new.schema
+            (next_of limit (name_in after.entry) (entries (cells_seen self.new))) result) }
+    {
+        let Some(handle) = self.handle.take() else {
+            unreachable!();
+        };
+        let (handle, cells) = walked(handle, alloc, after, limit);
         self.handle = Some(handle);
         cells
     }

@@ -3,6 +3,7 @@
 ghost use Rattle.std.specs.Prelude.{◌≡◌};
 
 mod beside;
+mod changes;
 mod opening;
 mod prefixes;
 mod threads;

@@ -1,0 +1,110 @@
+//! What a keeper's changes and a reader's cells bring to a copy.
+use rr_cells::Cell;
+use rr_desk::{Keeper, Reader, open};
+use rr_fakes::replicas::minutes;
+use rr_key::SeriesKey;
+use rr_packed::PackedArchive;
+use rr_replica::Replica;
+use std::alloc::Global;
+use std::sync::Wait;
+
+/// How many nanoseconds a minute has.
+const MINUTE: i64 = 60_000_000_000;
+
+/// Joins cells into a copy. Answers how many they are, and the last of them.
+fn join(copy: &mut Replica<PackedArchive>, cells: &[Cell]) -> Option<(usize, Option<Cell>)> {
+    for cell in cells {
+        copy.apply_cell(cell).ok()?;
+    }
+    match cells.last() {
+        Some(last) => Some((cells.len(), Some(last.copy().ok()?))),
+        None => Some((0, None)),
+    }
+}
+
+/// Joins a keeper's changes into a copy, two at a time, and says that they are written. Answers how
+/// many they were.
+fn bring_changes(
+    alloc: Global,
+    keeper: &mut Keeper<PackedArchive>,
+    copy: &mut Replica<PackedArchive>,
+) -> Option<usize> {
+    let series = keeper.changed_series(alloc).ok()?;
+    let mut joined = 0usize;
+    let mut after = None;
+    for _ in 0..20 {
+        let cells = keeper.changes(alloc, &series, after.as_ref(), 2).ok()?;
+        let (count, last) = join(copy, &cells)?;
+        joined = joined.saturating_add(count);
+        after = last;
+        if count < 2 {
+            keeper.changes_written();
+            return Some(joined);
+        }
+    }
+    None
+}
+
+/// Joins all that a reader sees into a copy, two cells at a time. Answers how many they were.
+fn bring_all(
+    alloc: Global,
+    reader: &mut Reader<PackedArchive>,
+    copy: &mut Replica<PackedArchive>,
+) -> Option<usize> {
+    let mut joined = 0usize;
+    let mut after = None;
+    for _ in 0..20 {
+        let cells = reader.cells_after(alloc, after.as_ref(), 2).ok()?;
+        let (count, last) = join(copy, &cells)?;
+        joined = joined.saturating_add(count);
+        after = last;
+        if count < 2 {
+            return Some(joined);
+        }
+    }
+    None
+}
+
+/// How many changes three samples of two series make; how many there are of a cell that is joined
+/// back, and of a sample more; and how many cells a reader then gives.
+fn counts<R: Wait>(
+    rt: &R,
+    alloc: Global,
+    keeper: &mut Keeper<PackedArchive>,
+    reader: &mut Reader<PackedArchive>,
+    copy: &mut Replica<PackedArchive>,
+    seen: &mut Replica<PackedArchive>,
+) -> Option<[usize; 4]> {
+    let first = SeriesKey::parse_text(alloc, b"a v").ok()?;
+    let second = SeriesKey::parse_text(alloc, b"b v").ok()?;
+    keeper.put(&first, 0, 5).ok()?;
+    keeper.put(&second, 0, 6).ok()?;
+    keeper.put(&second, MINUTE, 7).ok()?;
+    let new = bring_changes(alloc, keeper, copy)?;
+    let held = copy.cell_at(0)?.to_cell().ok()?;
+    keeper.join_cell(&held).ok()?;
+    let none = bring_changes(alloc, keeper, copy)?;
+    keeper.put(&second, MINUTE, 8).ok()?;
+    let later = bring_changes(alloc, keeper, copy)?;
+    keeper.publish(rt).ok()?;
+    Some([new, none, later, bring_all(alloc, reader, seen)?])
+}
+
+/// These counts, and how many cells a copy by changes has in the end, and one by what a reader sees.
+fn found<R: Wait>(rt: &R, alloc: Global) -> Option<([usize; 4], [usize; 2])> {
+    let mut copy = minutes(alloc, 2, 3).ok()?;
+    let mut seen = minutes(alloc, 3, 3).ok()?;
+    let (mut keeper, mut readers) = open(alloc, rt, minutes(alloc, 1, 3).ok()?, 1).ok()?;
+    let counts = match readers.first_mut() {
+        Some(reader) => counts(rt, alloc, &mut keeper, reader, &mut copy, &mut seen),
+        None => None,
+    };
+    keeper.close(rt);
+    Some((counts?, [copy.cell_count(), seen.cell_count()]))
+}
+
+#[test]
+fn changes_of_a_keeper_bring_a_copy_up_to_date(rt: HostRuntime) {
+    let counts = found(&rt, rt.alloc());
+    assert_eq!(rt; counts, Some(([3, 0, 1, 3], [3, 3])));
+}
