@@ -7,3 +7,5 @@ pub mod FilterLemmas
 pub mod SlotLemmas
 pub mod WithinLemmas
 pub mod BatchLemmas
+pub mod PastLemmas
+pub mod CheckpointLemmas

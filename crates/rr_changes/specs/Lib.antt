@@ -4,3 +4,5 @@ pub mod ChangeTimes
 pub mod Tracking
 pub mod Changes
 pub mod ChangeLaws
+pub mod Checkpoints
+pub mod CheckpointLaws

@@ -12,7 +12,8 @@
 //! [`next_changes`] gives the cells in the slots of their ranges, so many at a time, each call after
 //! the last cell of the one before, until fewer come (`specs/Changes.antt`). Once they are written,
 //! it is cleared; if they aren't, the next list has them again. [`laws`] say what the cells of all
-//! calls come to.
+//! calls come to, and what a checkpoint comes to that is read while the node goes on
+//! (`specs/Checkpoints.antt`).
 #![tactic(auto)]
 
 mod by_key;
