@@ -196,7 +196,7 @@ module _ (s : Layout) (is : IsLayout s) where
   from_none es n c h = ⊎_elim (λ was. let none = get-empty {X = Contribution} cell_name_cmp n in absurd cc)
       (λ among. among) (joined_from es empty n c h)
 
-written_was_held : (s : Layout) (writes : List Write) (m : Cells) → AreWrites s m writes → (e : NamedCell)
+pub written_was_held : (s : Layout) (writes : List Write) (m : Cells) → AreWrites s m writes → (e : NamedCell)
     → Contains (written_cells writes) e → WasHeld (map (λ w. w.cells) writes) e.0 e.1
 written_was_held s [] m are e has = absurd (nowhere e has)
 written_was_held s (w ∷ later) m are e has = ⊎_elim
@@ -213,7 +213,7 @@ written_was_held s (w ∷ later) m are e has = ⊎_elim
     ))
     (Contains-append_cases (entries w.update) (written_cells later) e has)
 
-walked_was_held : (batches : List Batch) (after : Option CellName) (last : Cells) (more : List Cells) (e : NamedCell)
+pub walked_was_held : (batches : List Batch) (after : Option CellName) (last : Cells) (more : List Cells) (e : NamedCell)
     → Contains (walked after batches last) e → WasHeld (map (λ b. b.held) batches ++ last ∷ more) e.0 e.1
 walked_was_held [] after last more e has = (
   last,
