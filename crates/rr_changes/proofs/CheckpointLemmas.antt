@@ -17,13 +17,13 @@ use Rattle.rr_changes.specs.Changes.{last_name, next_of}
 use Rattle.rr_changes.specs.Updates.{Holds, Write, AreWrites, last_cells, written_cells}
 use Rattle.rr_changes.specs.Checkpoints.{AreFrom, WasHeld, IsCheckpoint, Batch, walked, GoesForward}
 use Rattle.rr_changes.specs.CheckpointLaws.{CheckpointsBringAll, CheckpointsBringWhatWasHeld, CheckpointsMakeTheLast, WalksBringAll, WalksBringWhatWasHeld, WalksMakeTheLast}
-use Rattle.rr_cells.proofs.CellByCell.{join_nothing, trimmed_none}
+use Rattle.rr_cells.proofs.CellByCell.{join_goes_by_cells, join_nothing, trimmed_none}
 use Rattle.rr_cells.proofs.HeldCells.{all_entries}
 use Rattle.rr_cells.proofs.JoinLaws.{join_itself}
 use Rattle.rr_cells.proofs.Orders.{cell_name_cmp_total, cell_name_cmp-IsAntisymmetric}
 use Rattle.rr_changes.proofs.AddingLemmas.{join_cases}
 use Rattle.rr_changes.proofs.BatchLemmas.{part_more}
-use Rattle.rr_changes.proofs.HoldingLemmas.{nowhere, one, only, join_own, holds_entries, holds_further, holds_trimmed, hold_each_other, still_held, each_held, made_held, brought, last_holds}
+use Rattle.rr_changes.proofs.HoldingLemmas.{nowhere, one, only, holds_entries, holds_further, holds_trimmed, hold_each_other, still_held, each_held, made_held, brought, last_holds}
 use Rattle.rr_changes.proofs.PastLemmas.{cover_of, holds_covered}
 
 -- ---- lists
@@ -48,6 +48,13 @@ among_entries m n c there = by (entries m) (sym (get-entries m n) ∙ there)
               subst (Contains (e ∷ es)) (λ i. (sym name i, cell i)) (among_first e es)
           | false ↦ λ t h. among_later e es (n, c) (by es h)
         ] refl h
+
+-- a map holds each cell that it has
+own_held : (s : Layout) → IsLayout s → (m : Cells) (n : CellName) (c : Contribution) → IsTrimmed s m
+    → get m n ≡ Some c → Holds s m (one (n, c))
+own_held s is m n c kept there = subst (λ (y : Cells). Holds s y (one (n, c)))
+    (join_goes_by_cells s m m is kept ∙ join_itself s m is kept)
+    (each_held s is (entries m) m (n, c) kept (among_entries m n c there))
 
 -- each entry is a cell of its map
 entries_there : (m : Cells) → All (λ e. get m e.0 ≡ Some e.1) (entries m)
@@ -112,7 +119,7 @@ module _ (s : Layout) (is : IsLayout s) where
       holds_entries s is x m trim (all_entries (λ e. Holds s x (one e)) m (λ n c there.
       let then = of n.key in
       let was = All-contains (λ held. Holds s held m) moments then.0 since then.1 in
-      let p = cover_of s is then.0 (n, c) (holds_further s is then.0 m (one (n, c)) was (join_own s m n c kept there)) in
+      let p = cover_of s is then.0 (n, c) (holds_further s is then.0 m (one (n, c)) was (own_held s is m n c kept there)) in
       holds_covered s is x (p.name, p.cell) (n, c)
       (hold (p.name, p.cell) ((then.2 p.name p.cell p.key).1 p.there)) p.covers))
 
@@ -138,14 +145,14 @@ module _ (s : Layout) (is : IsLayout s) where
       (λ later. walk_holds batches next b.held last x goes.1
       (λ g has. hold g (Contains-append_right cells (walked next batches last) g has)) f
       (after_it next (entries b.held) f later)
-      (join_own s b.held p.name p.cell (holds_trimmed s is b.held m goes.0) p.there))
+      (own_held s is b.held p.name p.cell (holds_trimmed s is b.held m goes.0) p.there))
       (Contains-append_cases cells (cells_after next (entries b.held)) f among)) p.covers
 
   walks_bring : (m : Cells) (batches : List Batch) (last : Cells) → IsTrimmed s m → GoesForward s m batches last
       → Bring (walked None batches last) m
   walks_bring m batches last kept goes x trim hold =
       holds_entries s is x m trim (all_entries (λ e. Holds s x (one e)) m (λ n c there.
-      walk_holds batches None m last x goes hold (n, c) tt (join_own s m n c kept there)))
+      walk_holds batches None m last x goes hold (n, c) tt (own_held s is m n c kept there)))
 
   -- ---- what all cells come to
 
@@ -263,7 +270,7 @@ checkpoints_make_the_last s m writes moments cells es is kept are since until of
     let last = last_cells m writes in
     let was = All-contains (λ held. Holds s held m) moments then.0 since then.1 in
     holds_further s is last then.0 (one e) (All-contains (λ held. Holds s last held) moments then.0 until then.1)
-    (join_own s then.0 e.0 e.1 (holds_trimmed s is then.0 m was) ((then.2 e.0 e.1 refl).0 has)))
+    (own_held s is then.0 e.0 e.1 (holds_trimmed s is then.0 m was) ((then.2 e.0 e.1 refl).0 has)))
     among others
 
 pub walks_bring_all : WalksBringAll
@@ -292,14 +299,14 @@ module _ (s : Layout) (is : IsLayout s) where
   walked_is_held : (batches : List Batch) (after : Option CellName) (m last : Cells) → GoesForward s m batches last
       → (e : NamedCell) → Contains (walked after batches last) e → Holds s last (one e)
   walked_is_held [] after m last goes e has =
-      join_own s last e.0 e.1 (holds_trimmed s is last m goes)
+      own_held s is last e.0 e.1 (holds_trimmed s is last m goes)
       (All-contains (λ e. get last e.0 ≡ Some e.1) (cells_after after (entries last)) e
       (all_after (λ e. get last e.0 ≡ Some e.1) after (entries last) (entries_there last)) has)
   walked_is_held (b ∷ batches) after m last goes e has =
       let cells = next_of b.limit after (entries b.held) in
       ⊎_elim
       (λ here. holds_further s is last b.held (one e) (end_holds batches b.held last goes.1)
-      (join_own s b.held e.0 e.1 (holds_trimmed s is b.held m goes.0)
+      (own_held s is b.held e.0 e.1 (holds_trimmed s is b.held m goes.0)
       (All-contains (λ e. get b.held e.0 ≡ Some e.1) cells e
       (All-take (λ e. get b.held e.0 ≡ Some e.1) b.limit (cells_after after (entries b.held))
       (all_after (λ e. get b.held e.0 ≡ Some e.1) after (entries b.held) (entries_there b.held))) here)))

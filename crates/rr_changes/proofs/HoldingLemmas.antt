@@ -80,7 +80,7 @@ update_makes_the_cells s before m update is has since =
     update_joins s before m update since ∙ join_commutes s before m is ∙ has
 
 -- a map holds each cell that it has
-pub join_own : (s : Layout) (m : Cells) (n : CellName) (c : Contribution) → IsTrimmed s m → get m n ≡ Some c
+join_own : (s : Layout) (m : Cells) (n : CellName) (c : Contribution) → IsTrimmed s m → get m n ≡ Some c
     → Holds s m (insert empty n c)
 unfolding Maps.joined
 join_own s m n c kept e =

@@ -3,9 +3,9 @@ pub mod AddingLemmas
 pub mod CoveredLemmas
 pub mod TrackingLemmas
 pub mod KeyedLemmas
+pub mod PastLemmas
+pub mod CheckpointLemmas
 pub mod FilterLemmas
 pub mod SlotLemmas
 pub mod WithinLemmas
 pub mod BatchLemmas
-pub mod PastLemmas
-pub mod CheckpointLemmas

@@ -2,9 +2,10 @@
 //!
 //! An update is a part of a map of cells that has all that was added to it since an earlier moment:
 //! joined to what was there before, it makes what is there now, and updates may be joined in any
-//! order and any number of times (`specs/Updates.antt`). An operation changes cells of its key
-//! alone, in the slots of its time. So whoever tracks, of each series, the times of its changes,
-//! finds an update among its cells at the cost of the series that changed, and never of all.
+//! order and any number of times (`specs/Updates.antt`), also to a checkpoint, which was read while
+//! the replica went on (`specs/Checkpoints.antt`). An operation changes cells of its key alone, in
+//! the slots of its time. So whoever tracks, of each series, the times of its changes, finds an
+//! update among its cells at the cost of the series that changed, and never of all.
 //!
 //! [`ChangeTracker`] tracks them: at most two [`TimeRange`]s a series (`specs/Tracking.antt`).
 //! Before an operation is applied it is made `ready` for its series, and after that `track` can't
@@ -12,8 +13,7 @@
 //! [`next_changes`] gives the cells in the slots of their ranges, so many at a time, each call after
 //! the last cell of the one before, until fewer come (`specs/Changes.antt`). Once they are written,
 //! it is cleared; if they aren't, the next list has them again. [`laws`] say what the cells of all
-//! calls come to, and what a checkpoint comes to that is read while the node goes on
-//! (`specs/Checkpoints.antt`).
+//! calls come to.
 #![tactic(auto)]
 
 mod by_key;
