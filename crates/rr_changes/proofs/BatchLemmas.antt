@@ -38,7 +38,7 @@ after_next (Some n) es x xs sorted e = go (first_after n es) (walked_on n es sor
         subst (λ (z : NamedCell). cells_after (Some z.0) es ≡ xs) same rest
 
 -- the cells after a name are the first of them and those after the last of these
-part_more : (n : ℕ) (after : Option CellName) (es : List NamedCell) → T (is_sorted cell_name_cmp es)
+pub part_more : (n : ℕ) (after : Option CellName) (es : List NamedCell) → T (is_sorted cell_name_cmp es)
     → cells_after after es ≡ next_of n after es ++ cells_after (last_name after (next_of n after es)) es
 part_more n after es sorted = go n after (cells_after after es) refl
   where

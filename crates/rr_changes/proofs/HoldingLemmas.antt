@@ -34,10 +34,10 @@ one e = insert empty e.0 e.1
 
 -- ---- lists
 
-nowhere : (e : NamedCell) → Contains [] e → ⊥
+pub nowhere : (e : NamedCell) → Contains [] e → ⊥
 nowhere e among = let within = among.1 in omega arith
 
-only : (f e : NamedCell) → Contains (f ∷ []) e → f ≡ e
+pub only : (f e : NamedCell) → Contains (f ∷ []) e → f ≡ e
 only f e among = ⊎_elim (λ none. absurd (nowhere e none)) (λ same. same) (Contains-push_cases [] f e among)
 
 all_parts : (P : NamedCell → Type 0) (xs ys : List NamedCell) → AllByRecursion P (xs ++ ys)
@@ -147,12 +147,12 @@ module _ (s : Layout) (is : IsLayout s) where
 
   -- ---- joined cell by cell
 
-  still_held : (es : List NamedCell) (x m : Cells) → Holds s x m → Holds s (join_cells s x es) m
+  pub still_held : (es : List NamedCell) (x m : Cells) → Holds s x m → Holds s (join_cells s x es) m
   still_held [] x m a = a
   still_held (e ∷ es) x m a = still_held es (join_cell s x e.0 e.1) m
       (holds_further (join_cell s x e.0 e.1) x m (holds_before x (one e) (holds_trimmed x m a)) a)
 
-  each_held : (es : List NamedCell) (x : Cells) (e : NamedCell) → IsTrimmed s x → Contains es e
+  pub each_held : (es : List NamedCell) (x : Cells) (e : NamedCell) → IsTrimmed s x → Contains es e
       → Holds s (join_cells s x es) (one e)
   each_held [] x e kept among = absurd (nowhere e among)
   each_held (f ∷ es) x e kept among = ⊎_elim
@@ -171,14 +171,14 @@ module _ (s : Layout) (is : IsLayout s) where
   holds_entries x c kept all = sym (join_goes_by_cells s x c is kept) ∙ join_held (entries c) x all
 
   -- and what makes a held map is held
-  made_held : (es : List NamedCell) (x m : Cells) → Holds s x m → AllByRecursion (λ e. Holds s x (one e)) es
+  pub made_held : (es : List NamedCell) (x m : Cells) → Holds s x m → AllByRecursion (λ e. Holds s x (one e)) es
       → Holds s x (join_cells s m es)
   made_held [] x m a all = a
   made_held (e ∷ es) x m a all = made_held es x (join_cell s m e.0 e.1) (holds_both x m (one e) a all.0) all.1
 
   -- ---- updates
 
-  brought : (writes : List Write) (m x : Cells) → AreWrites s m writes → Holds s x m
+  pub brought : (writes : List Write) (m x : Cells) → AreWrites s m writes → Holds s x m
       → AllByRecursion (λ e. Holds s x (one e)) (written_cells writes) → Holds s x (last_cells m writes)
   brought [] m x are a all = a
   brought (w ∷ later) m x are a all =
@@ -189,7 +189,7 @@ module _ (s : Layout) (is : IsLayout s) where
       parts.1
 
   -- the cells of the last write hold each cell that was written
-  last_holds : (writes : List Write) (m : Cells) → AreWrites s m writes → IsTrimmed s m
+  pub last_holds : (writes : List Write) (m : Cells) → AreWrites s m writes → IsTrimmed s m
       → Holds s (last_cells m writes) m
       × AllByRecursion (λ e. Holds s (last_cells m writes) (one e)) (written_cells writes)
   last_holds [] m are kept = (join_itself s m is kept, tt)

@@ -4,6 +4,8 @@ pub mod AddingLemmas
 pub mod CoveredLemmas
 pub mod TrackingLemmas
 pub mod KeyedLemmas
+pub mod PastLemmas
+pub mod CheckpointLemmas
 pub mod FilterLemmas
 pub mod SlotLemmas
 pub mod WithinLemmas

@@ -2,9 +2,10 @@
 //!
 //! An update is a part of a map of cells that has all that was added to it since an earlier moment:
 //! joined to what was there before, it makes what is there now, and updates may be joined in any
-//! order and any number of times (`specs/Updates.antt`). An operation changes cells of its key
-//! alone, in the slots of its time. So whoever tracks, of each series, the times of its changes,
-//! finds an update among its cells at the cost of the series that changed, and never of all.
+//! order and any number of times (`specs/Updates.antt`), also to a checkpoint, which was read while
+//! the replica went on (`specs/Checkpoints.antt`). An operation changes cells of its key alone, in
+//! the slots of its time. So whoever tracks, of each series, the times of its changes, finds an
+//! update among its cells at the cost of the series that changed, and never of all.
 //!
 //! [`ChangeTracker`] tracks them: at most two [`TimeRange`]s a series (`specs/Tracking.antt`).
 //! Before an operation is applied it is made `ready` for its series, and after that `track` can't

@@ -50,7 +50,7 @@ record AreNodes (s : Layout) (ds : Desks) (ns : Nodes Cells) : Type 0 where
   used : (origin : ℕ) → is_some (get ns origin) ≡ is_some (get ds origin)
   each : (origin : ℕ) (d : Desk) → get ds origin ≡ Some d → HasNode s ns origin d
 
-elsewhere : {V : Type 0} (m : FinMap nat_cmp V) (origin : ℕ) (n : V) (q : ℕ) → q ≢ origin
+pub elsewhere : {V : Type 0} (m : FinMap nat_cmp V) (origin : ℕ) (n : V) (q : ℕ) → q ≢ origin
     → get (insert m origin n) q ≡ get m q
 elsewhere m origin n q other =
     get-insert nat_cmp_total m origin n q
@@ -258,7 +258,7 @@ calls_answer_from_samples s calls is may =
 
 module _ (s : Layout) (origin : ℕ) where
   -- one of them, and then the others
-  and_then : (ds : Desks) (d : Desk) (c : Call) (k last : KeeperState) (others : List Call) → MayCall s ds c
+  pub and_then : (ds : Desks) (d : Desk) (c : Call) (k last : KeeperState) (others : List Call) → MayCall s ds c
       → called s ds c ≡ insert ds origin (kept_by d k)
       → Leave s (insert ds origin (kept_by d k)) origin (kept_by d k) others last
       → Leave s ds origin d (c ∷ others) last
@@ -269,14 +269,14 @@ module _ (s : Layout) (origin : ℕ) where
   }
 
   -- none at all
-  stays : (ds : Desks) (d : Desk) → get ds origin ≡ Some d → Leave s ds origin d [] d.keeper
+  pub stays : (ds : Desks) (d : Desk) → get ds origin ≡ Some d → Leave s ds origin d [] d.keeper
   stays ds d here = record {
     may = tt;
     keeper = sym
         (insert_there nat_cmp_total nat_cmp-IsAntisymmetric ds origin d here);
   }
 
-  changed : (ds : Desks) (d : Desk) (f : KeeperState → KeeperState) → get ds origin ≡ Some d
+  pub changed : (ds : Desks) (d : Desk) (f : KeeperState → KeeperState) → get ds origin ≡ Some d
       → with_keeper ds origin f ≡ insert ds origin (kept_by d (f d.keeper))
   changed ds d f here = ap (λ (o : Option Desk). where_some o ds (λ e. insert ds origin (kept_by e (f e.keeper)))) here
 

@@ -7,3 +7,5 @@ pub mod CallsLemmas
 pub mod SessionsLemmas
 pub mod WholeSessions
 pub mod ExampleLemmas
+pub mod JournalsLemmas
+pub mod ReplaysLemmas

@@ -23,7 +23,7 @@ use Rattle.rr_nodes.specs.Pulls.{takes, TakesAreInOrder, PullsBringAll}
 
 -- ---- the other is as it was
 
-held_elsewhere : {K : Type 0} (ns : Nodes K) (origin : ℕ) (n : Node K) (there : Moment) → there.origin ≢ origin
+pub held_elsewhere : {K : Type 0} (ns : Nodes K) (origin : ℕ) (n : Node K) (there : Moment) → there.origin ≢ origin
     → held_at (insert ns origin n) there ≡ held_at ns there
 held_elsewhere {K} ns origin n there other =
     ap (λ (o : Option (Node K)). o >>= λ x. slice_get (all_held x) there.ago)

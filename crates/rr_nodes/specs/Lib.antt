@@ -7,3 +7,5 @@ pub mod Giving
 pub mod Pulls
 pub mod Sessions
 pub mod Example
+pub mod Journals
+pub mod Replays

@@ -25,7 +25,7 @@ pub record Moment : Type 0 where
   pub ago : ℕ
 
 -- what is done: a node is opened that holds nothing; a node writes a sample; it takes one cell of what some node held
--- at some moment; a node is loaded with all that some node held at some moment
+-- at some moment, be it of a page or of a journal; a node is loaded with all that some node held at some moment
 pub data Deed : Type 0 where
   opened : (origin : ℕ) → Deed
   wrote : (origin : ℕ) (key : List ℕ) (time value : ℤ) → Deed

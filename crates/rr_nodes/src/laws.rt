@@ -4,8 +4,10 @@ ghost use Rattle.rr_nodes.specs.Keepers.{OpeningIsANode, PutIsADeed, WriteIsDeed
 ghost use Rattle.rr_nodes.specs.Example.{ThreeAnswer};
 ghost use Rattle.rr_nodes.specs.Calls.{CallsAnswerFromSamples, WritesArePuts, PagesAreJoins};
 ghost use Rattle.rr_nodes.specs.Giving.{GivenAreThere, UnusedHaveNoCells, SavedIsLoadedElsewhere};
+ghost use Rattle.rr_nodes.specs.Journals.{WrittenWereHeld, CheckpointsWereHeld, WalksWereHeld, ReadCellsAreDeeds, ReadCellsAreAKeepers, ReadCellsAreJoins, NodesOnlyAdd, TakenAreHeld, JournalsBringAll, CheckpointedBringAll, WalkedBringAll};
 ghost use Rattle.rr_nodes.specs.Models.{cell_model, sample_model};
 ghost use Rattle.rr_nodes.specs.Pulls.{TakesAreInOrder, PullsBringAll};
+ghost use Rattle.rr_nodes.specs.Replays.{PrefixesAreDeeds, SyncedBringAll, ReplaysMakeTheLast};
 ghost use Rattle.rr_nodes.specs.Sessions.{SessionsBringWhatIsLacking, SessionsAreDeeds, PullIsDeeds, PullsAreJoins, CutSessionsBringAPrefix, SilentSessionsBringNothing, CutPullIsDeeds, CutPullsAreJoins, SidesHaveASession, SidesHaveACutSession};
 
 /// Whatever is done at however many nodes, in whatever order: at each moment each node has the
@@ -98,6 +100,38 @@ pub fn calls_are_deeds()
     ensures answers { CallsAnswerFromSamples }
     ensures writes { WritesArePuts }
     ensures pages { PagesAreJoins }
+{}
+
+/// What a node writes to its journal, and what a checkpoint of it has, are cells that it held at
+/// moments. So whatever other nodes read of journals, cut anywhere, read twice and in any order, with
+/// pulls and pages between, are deeds: those of a keeper that joins the cells, and calls at a desk.
+pub fn journals_are_deeds()
+    ensures written { WrittenWereHeld }
+    ensures checkpoints { CheckpointsWereHeld }
+    ensures walks { WalksWereHeld }
+    ensures deeds { ReadCellsAreDeeds }
+    ensures keeper { ReadCellsAreAKeepers }
+    ensures calls { ReadCellsAreJoins }
+{}
+
+/// What a node holds has all that it held before. So whoever took each cell of a journal up to some
+/// write, from its beginning or from a checkpoint on, holds all that its node held at that write,
+/// whatever else was done, and in whatever order.
+pub fn journals_bring_all()
+    ensures add { NodesOnlyAdd }
+    ensures taken { TakenAreHeld }
+    ensures all { JournalsBringAll }
+    ensures checkpoints { CheckpointedBringAll }
+    ensures walks { WalkedBringAll }
+{}
+
+/// So it is by the bytes of a journal: what a replay makes of any prefix of them is what deeds make;
+/// of what was synced it makes all that the node held then, whatever a crash left behind it; and of
+/// the records alone exactly that.
+pub fn replays_are_deeds()
+    ensures prefixes { PrefixesAreDeeds }
+    ensures synced { SyncedBringAll }
+    ensures last { ReplaysMakeTheLast }
 {}
 
 /// Three nodes, of which one took a page twice and one the first cell of it alone: each answers by

@@ -1,0 +1,55 @@
+-- Checkpoints: cells of a node that were read while it went on, so that they are of different moments.
+use Rattle.std.specs.Prelude.{◌≡◌, ℕ, List, [], ◌∷◌, ◌++◌, Option, Some, All, Contains, ◌↔◌}
+use Rattle.std.specs.FinMap.{get, entries}
+use Rattle.rr_schema.specs.Schema.{Layout}
+use Rattle.rr_contrib.specs.declared.contribution.Contribution.{Contribution}
+use Rattle.rr_cells.specs.CellNames.{CellName}
+use Rattle.rr_cells.specs.CellBounds.{NamedCell}
+use Rattle.rr_cells.specs.Cells.{Cells}
+use Rattle.rr_delta.specs.Summaries.{cells_after}
+use Rattle.rr_changes.specs.Changes.{last_name, next_of}
+use Rattle.rr_changes.specs.Updates.{Holds}
+
+-- ---- moments
+
+-- each of these was held from a moment on: it holds all that was held then
+abbrev pub AreFrom : Layout → Cells → List Cells → Type 0
+AreFrom s first moments = All (λ held. Holds s held first) moments
+
+-- and up to a moment: what is held then holds all of each
+abbrev pub AreUpTo : Layout → Cells → List Cells → Type 0
+AreUpTo s last moments = All (λ held. Holds s last held) moments
+
+-- a cell was held at one of these moments
+abbrev pub WasHeld : List Cells → CellName → Contribution → Type 0
+WasHeld moments n c = (held : Cells) × Contains moments held × (get held n ≡ Some c)
+
+-- ---- key by key
+
+-- of a key these cells are exactly those of a map
+abbrev pub AreOf : List ℕ → Cells → List NamedCell → Type 0
+AreOf key held cells = (n : CellName) (c : Contribution) → n.key ≡ key
+    → Contains cells (n, c) ↔ (get held n ≡ Some c)
+
+-- the cells of each key are exactly those that were held at one of these moments
+abbrev pub IsCheckpoint : List Cells → List NamedCell → Type 0
+IsCheckpoint moments cells = (key : List ℕ) → (held : Cells) × Contains moments held × AreOf key held cells
+
+-- ---- so many cells at a time
+
+-- a batch of a walk: at most how many cells it has, and what was held when it was read
+pub record Batch : Type 0 where
+  pub limit : ℕ
+  pub held : Cells
+
+-- the cells that a walk reads after a name: of each batch the first after those of the batch before, and at its end all
+-- that are left
+abbrev pub walked : Option CellName → List Batch → Cells → List NamedCell
+walked after [] last = cells_after after (entries last)
+walked after (b ∷ batches) last =
+    let cells = next_of b.limit after (entries b.held) in cells ++ walked (last_name after cells) batches last
+
+-- time goes on: from this map on, what is held at each batch and at the end holds all that was held before
+abbrev pub GoesForward : Layout → Cells → List Batch → Cells → Type 0
+GoesForward s m [] last = Holds s last m
+GoesForward s m (b ∷ batches) last = Holds s b.held m × GoesForward s b.held batches last

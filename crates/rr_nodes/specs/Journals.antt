@@ -1,0 +1,154 @@
+-- Journals: what a node writes there are cells that it held at moments, so to read them is to take cells, as from a page.
+use Rattle.std.specs.Prelude.{◌≡◌, ◌≢◌, ℕ, List, [], ◌∷◌, ◌++◌, map, fold, None, Some, All}
+use Rattle.std.specs.FinMap.{empty, get}
+use Rattle.rr_schema.specs.Schema.{Layout, IsLayout}
+use Rattle.rr_cells.specs.CellNames.{CellName}
+use Rattle.rr_cells.specs.CellBounds.{NamedCell}
+use Rattle.rr_cells.specs.Cells.{Cells, IsTrimmed}
+use Rattle.rr_cells.specs.declared.cell.Cell.{Cell}
+use Rattle.rr_cells.specs.declared.op.Op.{Op}
+use Rattle.rr_cells.specs.Joins.{join_cells}
+use Rattle.rr_cells.specs.Listing.{owned_cell}
+use Rattle.rr_cells.specs.Operations.{outcome_of}
+use Rattle.rr_changes.specs.Updates.{Holds, Write, AreWrites, last_cells, written_cells}
+use Rattle.rr_changes.specs.Checkpoints.{AreFrom, IsCheckpoint, Batch, GoesForward, walked}
+use Rattle.rr_desk.specs.KeeperState.{KeeperState}
+use Rattle.rr_desk.specs.ReaderState.{with_joined}
+use Rattle.rr_nodes.specs.Nodes.{Node, Nodes, Moment, Deed, took, held_at, after_all, taken}
+use Rattle.rr_nodes.specs.Models.{cell_model}
+use Rattle.rr_nodes.specs.Keepers.{IsNode}
+use Rattle.rr_nodes.specs.Calls.{Call, Desk, Desks, HasBegun, Leave}
+use Rattle.rr_nodes.specs.Sessions.{now_at}
+
+-- ---- what stands in a journal
+
+-- each of these is what the node of an origin held at some moment
+abbrev pub AreMomentsOf : Nodes Cells → ℕ → List Cells → Type 0
+AreMomentsOf ns origin moments =
+    All (λ held. (ago : ℕ) × (held_at ns (record { origin = origin; ago = ago }) ≡ Some held)) moments
+
+-- a cell as a node other than that of an origin held it at some moment
+pub record WasElsewhere (ns : Nodes Cells) (origin : ℕ) (e : NamedCell) : Type 0 where
+  pub there : Moment
+  pub other : there.origin ≢ origin
+  pub held : Cells
+  pub was : held_at ns there ≡ Some held
+  pub cell : get held e.0 ≡ Some e.1
+
+-- so is each cell that a node writes, where the cells of each write are what it held
+abbrev pub WrittenWereHeld : Type 0
+WrittenWereHeld =
+    (s : Layout) (ns : Nodes Cells) (origin there : ℕ) (m : Cells) (writes : List Write) → there ≢ origin
+    → AreWrites s m writes → AreMomentsOf ns there (map (λ w. w.cells) writes)
+    → All (WasElsewhere ns origin) (written_cells writes)
+
+-- and each of a checkpoint, read key by key or so many cells at a time
+abbrev pub CheckpointsWereHeld : Type 0
+CheckpointsWereHeld =
+    (ns : Nodes Cells) (origin there : ℕ) (moments : List Cells) (cells : List NamedCell) → there ≢ origin
+    → IsCheckpoint moments cells → AreMomentsOf ns there moments
+    → All (WasElsewhere ns origin) cells
+
+abbrev pub WalksWereHeld : Type 0
+WalksWereHeld =
+    (ns : Nodes Cells) (origin there : ℕ) (batches : List Batch) (last : Cells) → there ≢ origin
+    → AreMomentsOf ns there (map (λ b. b.held) batches ++ last ∷ [])
+    → All (WasElsewhere ns origin) (walked None batches last)
+
+-- ---- what is read of journals
+
+-- the deeds that take these cells, in order, each of a moment of its own
+abbrev pub takes_of : ℕ → List (Moment × CellName) → List Deed
+takes_of origin cells = map (λ c. took origin c.0 c.1) cells
+
+-- a node that held this took these cells, in order
+pub record AreTaken (s : Layout) (deeds : List Deed) (origin : ℕ) (had : Cells) (es : List NamedCell) : Type 0 where
+  pub cells : List (Moment × CellName)
+  pub names : map (λ c. c.1) cells ≡ map (λ e. e.0) es
+  pub then : held_at (after_all cell_model s (deeds ++ takes_of origin cells)) (now_at origin)
+      ≡ Some (join_cells s had es)
+
+-- whatever a node reads of the journals of others, cut anywhere, read twice and in any order, are deeds
+abbrev pub ReadCellsAreDeeds : Type 0
+ReadCellsAreDeeds =
+    (s : Layout) (deeds : List Deed) (origin : ℕ) (had : Cells) (es : List NamedCell)
+    → held_at (after_all cell_model s deeds) (now_at origin) ≡ Some had
+    → All (WasElsewhere (after_all cell_model s deeds) origin) es
+    → AreTaken s deeds origin had es
+
+-- and these deeds are what a keeper does that joins the cells, each one of some map
+abbrev pub ReadCellsAreAKeepers : Type 0
+ReadCellsAreAKeepers =
+    (opening : List Op) (k : KeeperState) (n : Node Cells) (cells : List (Cell × Cells))
+    → All (λ c. get c.1 (owned_cell c.0).0 ≡ Some c.0.contribution) cells → IsNode opening k n
+    → IsNode opening (with_joined k (map (λ c. c.0) cells))
+    (fold (λ o c. taken cell_model k.schema k.origin o c.1 (owned_cell c.0).0) n cells)
+
+-- a cell as another desk than that of an origin had it when it had done some of its operations
+pub record WasAtADesk (s : Layout) (ds : Desks) (origin : ℕ) (c : Cell) : Type 0 where
+  pub there : ℕ
+  pub other : there ≢ origin
+  pub list : List Op
+  pub begun : HasBegun ds there list
+  pub cell : get (outcome_of s list) (owned_cell c).0 ≡ Some c.contribution
+
+-- so among several desks they are calls
+abbrev pub ReadCellsAreJoins : Type 0
+ReadCellsAreJoins =
+    (s : Layout) (ds : Desks) (origin : ℕ) (d : Desk) (cells : List Cell) → get ds origin ≡ Some d
+    → All (WasAtADesk s ds origin) cells
+    → (calls : List Call) × Leave s ds origin d calls (with_joined d.keeper cells)
+
+-- ---- who has read a journal up to a place
+
+-- what a node holds has all that it held at any moment
+abbrev pub NodesOnlyAdd : Type 0
+NodesOnlyAdd =
+    (s : Layout) (deeds : List Deed) (origin ago : ℕ) (m x : Cells) → IsLayout s
+    → held_at (after_all cell_model s deeds) (record { origin = origin; ago = ago }) ≡ Some m
+    → held_at (after_all cell_model s deeds) (now_at origin) ≡ Some x
+    → Holds s x m
+
+-- among these deeds the node of an origin took a cell
+pub record HasTaken (s : Layout) (deeds : List Deed) (origin : ℕ) (e : NamedCell) : Type 0 where
+  pub before : List Deed
+  pub there : Moment
+  pub later : List Deed
+  pub among : deeds ≡ before ++ took origin there e.0 ∷ later
+  pub node : Node Cells
+  pub here : get (after_all cell_model s before) origin ≡ Some node
+  pub held : Cells
+  pub was : held_at (after_all cell_model s before) there ≡ Some held
+  pub cell : get held e.0 ≡ Some e.1
+
+-- whatever else was done at it, in whatever order, it holds the join of all cells that it took
+abbrev pub TakenAreHeld : Type 0
+TakenAreHeld =
+    (s : Layout) (deeds : List Deed) (origin : ℕ) (x : Cells) (es : List NamedCell) → IsLayout s
+    → held_at (after_all cell_model s deeds) (now_at origin) ≡ Some x → All (HasTaken s deeds origin) es
+    → Holds s x (join_cells s empty es)
+
+-- so who has taken each cell of a journal from its beginning up to a write holds all that its node held then
+abbrev pub JournalsBringAll : Type 0
+JournalsBringAll =
+    (s : Layout) (deeds : List Deed) (origin : ℕ) (x : Cells) (writes : List Write) → IsLayout s
+    → held_at (after_all cell_model s deeds) (now_at origin) ≡ Some x → AreWrites s empty writes
+    → All (HasTaken s deeds origin) (written_cells writes)
+    → Holds s x (last_cells empty writes)
+
+-- and who has taken each of a checkpoint, and of the journal from the checkpoint's first moment on
+abbrev pub CheckpointedBringAll : Type 0
+CheckpointedBringAll =
+    (s : Layout) (deeds : List Deed) (origin : ℕ) (m x : Cells) (moments : List Cells) (cells : List NamedCell)
+    (writes : List Write) → IsLayout s → held_at (after_all cell_model s deeds) (now_at origin) ≡ Some x
+    → IsTrimmed s m → AreWrites s m writes → AreFrom s m moments → IsCheckpoint moments cells
+    → All (HasTaken s deeds origin) (cells ++ written_cells writes)
+    → Holds s x (last_cells m writes)
+
+abbrev pub WalkedBringAll : Type 0
+WalkedBringAll =
+    (s : Layout) (deeds : List Deed) (origin : ℕ) (m x : Cells) (batches : List Batch) (last : Cells)
+    (writes : List Write) → IsLayout s → held_at (after_all cell_model s deeds) (now_at origin) ≡ Some x
+    → IsTrimmed s m → AreWrites s m writes → GoesForward s m batches last
+    → All (HasTaken s deeds origin) (walked None batches last ++ written_cells writes)
+    → Holds s x (last_cells m writes)
