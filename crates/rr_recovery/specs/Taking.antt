@@ -51,12 +51,12 @@ abbrev pub taken : Recovery → Meaning → Result Recovery RecoveryFault
 taken x (HasCells groups) = taken_cells x (flat_map group_cells groups)
 taken x (HasOrigin origin) = unless OriginUsed (origin == x.replica.origin) (Ok (with_found x
     (record {
-  origin = Some origin;
-  cursors = x.found.cursors;
-  end = x.found.end;
-  records = x.found.records;
-  cells = x.found.cells;
-})))
+      origin = Some origin;
+      cursors = x.found.cursors;
+      end = x.found.end;
+      records = x.found.records;
+      cells = x.found.cells;
+    })))
 taken x (HasJoined cursor) = Ok (with_found x (record {
   origin = x.found.origin;
   cursors = with_cursor x.found.cursors cursor;
@@ -66,12 +66,12 @@ taken x (HasJoined cursor) = Ok (with_found x (record {
 }))
 taken x (HasEnded count) = Ok (with_found x
     (record {
-  origin = x.found.origin;
-  cursors = x.found.cursors;
-  end = Some count;
-  records = x.found.records;
-  cells = x.found.cells;
-}))
+      origin = x.found.origin;
+      cursors = x.found.cursors;
+      end = Some count;
+      records = x.found.records;
+      cells = x.found.cells;
+    }))
 
 -- a result of records, with their faults as a recovery's
 abbrev pub as_bad : {A : Type 0} → Result A JournalFault → Result A RecoveryFault
