@@ -19,7 +19,7 @@ use Rattle.rr_journal.proofs.TextLemmas.{prefixes_are_read, synced_is_read}
 use Rattle.rr_recovery.specs.declared.fault.RecoveryFault.{RecoveryFault}
 use Rattle.rr_recovery.specs.declared.fault.RecoveryFault.TheVariants.{OriginUsed}
 use Rattle.rr_recovery.specs.Joining.{cells_of_record, group_cells, with_all}
-use Rattle.rr_recovery.specs.Taking.{Recovery, as_bad, taken, taken_cells, taken_record, taken_records, with_one}
+use Rattle.rr_recovery.specs.Taking.{Recovery, as_bad, taken, taken_cells, taken_record, taken_records, with_one, with_record}
 use Rattle.rr_recovery.specs.Laws.{Holds, IsHistory, PrefixesMakeTheirMap, RecordsAreTaken, ReplaysAreRepeatable, ReplaysJoin, SyncedIsThere, cells_of_all, is_named, last_map, meanings_of}
 use Rattle.rr_recovery.proofs.MeaningLemmas.{as_bad_ok}
 use Rattle.rr_recovery.proofs.TakingLemmas.{with_all-append, with_all-origin, with_all-schema}
@@ -77,8 +77,12 @@ pub record RecordTaken (x y : Recovery) (r : Raw) : Type 0 where
 
 pub record_taken : (x y : Recovery) (r : Raw) → taken_record x r ≡ Ok y → RecordTaken x y r
 record_taken x y r e =
-    let a = then_ok (as_bad (record_meaning x.replica.schema r)) (taken x) y e in
-    record { meaning = a.0; read = as_bad_ok _ a.0 a.1; is = meaning_taken x y a.0 a.2 }
+    let a = then_ok (as_bad (record_meaning x.replica.schema r)) (taken (with_record x)) y e in
+    let is = meaning_taken (with_record x) y a.0 a.2 in record {
+      meaning = a.0;
+      read = as_bad_ok _ a.0 a.1;
+      is = record { unused = is.unused; state = is.state };
+    }
 
 -- ---- what records make
 

@@ -16,7 +16,7 @@ use Rattle.rr_recovery.specs.declared.fault.RecoveryFault.{RecoveryFault}
 use Rattle.rr_recovery.specs.declared.fault.RecoveryFault.TheVariants.{ReadFailed, OriginUsed, Memory}
 use Rattle.rr_recovery.specs.Joining.{group_cells}
 use Rattle.rr_recovery.specs.Replaying.{IsFaultOf, ReadsAll, Replays}
-use Rattle.rr_recovery.specs.Taking.{Recovery, as_bad, taken, taken_cells, taken_record, taken_records, with_one}
+use Rattle.rr_recovery.specs.Taking.{Recovery, as_bad, taken, taken_cells, taken_record, taken_records, with_one, with_record}
 
 abbrev Taken : Type 0
 Taken = Result Recovery RecoveryFault
@@ -163,8 +163,8 @@ no_read_in_taken x (HasEnded count) h = absurd (cc h)
 pub never_read_failed : (x : Recovery) (r : Raw) → taken_record x r ≡ Err ReadFailed → ⊥
 never_read_failed x r h = by_read (record_meaning x.replica.schema r) h
   where
-    by_read : (m : Result Meaning JournalFault) → (as_bad m >>= taken x) ≡ Err ReadFailed → ⊥
-    by_read (Ok m) h = no_read_in_taken x m h
+    by_read : (m : Result Meaning JournalFault) → (as_bad m >>= taken (with_record x)) ≡ Err ReadFailed → ⊥
+    by_read (Ok m) h = no_read_in_taken (with_record x) m h
     by_read (Err fault) h = absurd (cc h)
 
 pub never_refused : (x : Recovery) (r : Raw) (fault : RecoveryFault)

@@ -6,19 +6,20 @@ use Rattle.rr_journal.specs.declared.cursor.Cursor.{Cursor}
 use Rattle.rr_recovery.specs.declared.found.Found.{Found}
 
 -- the last origin of records, for each journal the last cursor, the number that the last end of a checkpoint states, and
--- how many cells were read
+-- how many records and cells were read
 pub record FoundState : Type 0 where
   pub origin : Option ℕ
   pub cursors : List Cursor
   pub end : Option ℕ
+  pub records : ℕ
   pub cells : ℕ
 
 abbrev pub found_state : Found → FoundState
-found_state f = record { origin = f.origin; cursors = f.cursors.items; end = f.end; cells = f.cells }
+found_state f = record { origin = f.origin; cursors = f.cursors.items; end = f.end; records = f.records; cells = f.cells }
 
 -- nothing yet
 abbrev pub nothing_found : FoundState
-nothing_found = record { origin = None; cursors = []; end = None; cells = 0 }
+nothing_found = record { origin = None; cursors = []; end = None; records = 0; cells = 0 }
 
 -- with a cursor in place of the one at a place, or behind all
 abbrev pub put_at : List Cursor → Cursor → Option ℕ → List Cursor
@@ -31,4 +32,20 @@ with_cursor cs c = put_at cs c (position (λ d. pointwise nat_eq d.id c.id) cs)
 
 -- one cell more; the count stops at its greatest value
 abbrev pub one_more : FoundState → FoundState
-one_more f = record { origin = f.origin; cursors = f.cursors; end = f.end; cells = min (f.cells + 1) (2 ^ 64 - 1) }
+one_more f = record {
+  origin = f.origin;
+  cursors = f.cursors;
+  end = f.end;
+  records = f.records;
+  cells = min (f.cells + 1) (2 ^ 64 - 1);
+}
+
+-- one record more, likewise
+abbrev pub one_record : FoundState → FoundState
+one_record f = record {
+  origin = f.origin;
+  cursors = f.cursors;
+  end = f.end;
+  records = min (f.records + 1) (2 ^ 64 - 1);
+  cells = f.cells;
+}

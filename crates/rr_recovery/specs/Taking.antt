@@ -14,7 +14,7 @@ use Rattle.rr_journal.specs.Text.{Raw}
 use Rattle.rr_recovery.specs.declared.fault.RecoveryFault.{RecoveryFault}
 use Rattle.rr_recovery.specs.declared.fault.RecoveryFault.TheVariants.{BadRecord, OriginUsed, Memory}
 use Rattle.rr_recovery.specs.declared.found.Found.{Found}
-use Rattle.rr_recovery.specs.Found.{FoundState, found_state, one_more, with_cursor}
+use Rattle.rr_recovery.specs.Found.{FoundState, found_state, one_more, one_record, with_cursor}
 use Rattle.rr_recovery.specs.Joining.{JoinsSome, group_cells}
 
 -- packed cells of one of a schema's archives, as it may have them
@@ -37,6 +37,10 @@ with_one x e = record { replica = with_named x.replica e; found = one_more x.fou
 abbrev pub with_found : Recovery → FoundState → Recovery
 with_found x found = record { replica = x.replica; found = found }
 
+-- with a record counted
+abbrev pub with_record : Recovery → Recovery
+with_record x = with_found x (one_record x.found)
+
 -- these cells are joined, up to the first of the replica's own origin
 abbrev pub taken_cells : Recovery → List NamedCell → Result Recovery RecoveryFault
 taken_cells x [] = Ok x
@@ -46,24 +50,37 @@ taken_cells x (e ∷ es) = unless OriginUsed (e.0.origin == x.replica.origin) (t
 abbrev pub taken : Recovery → Meaning → Result Recovery RecoveryFault
 taken x (HasCells groups) = taken_cells x (flat_map group_cells groups)
 taken x (HasOrigin origin) = unless OriginUsed (origin == x.replica.origin) (Ok (with_found x
-    (record { origin = Some origin; cursors = x.found.cursors; end = x.found.end; cells = x.found.cells })))
+    (record {
+      origin = Some origin;
+      cursors = x.found.cursors;
+      end = x.found.end;
+      records = x.found.records;
+      cells = x.found.cells;
+    })))
 taken x (HasJoined cursor) = Ok (with_found x (record {
   origin = x.found.origin;
   cursors = with_cursor x.found.cursors cursor;
   end = x.found.end;
+  records = x.found.records;
   cells = x.found.cells;
 }))
 taken x (HasEnded count) = Ok (with_found x
-    (record { origin = x.found.origin; cursors = x.found.cursors; end = Some count; cells = x.found.cells }))
+    (record {
+      origin = x.found.origin;
+      cursors = x.found.cursors;
+      end = Some count;
+      records = x.found.records;
+      cells = x.found.cells;
+    }))
 
 -- a result of records, with their faults as a recovery's
 abbrev pub as_bad : {A : Type 0} → Result A JournalFault → Result A RecoveryFault
 as_bad (Ok x) = Ok x
 as_bad (Err fault) = Err (BadRecord fault)
 
--- a record is taken, if it means something
+-- a record is counted and taken, if it means something
 abbrev pub taken_record : Recovery → Raw → Result Recovery RecoveryFault
-taken_record x r = as_bad (record_meaning x.replica.schema r) >>= taken x
+taken_record x r = as_bad (record_meaning x.replica.schema r) >>= taken (with_record x)
 
 -- records are taken one after the other, up to the first fault
 abbrev pub taken_records : Recovery → List Raw → Result Recovery RecoveryFault

@@ -2,7 +2,7 @@
 ghost use Rattle.std.specs.Prelude.{◌≡◌, ◌↔◌, nat_eq, IsTrue, OnOk, Some};
 ghost use Rattle.std.specs.Cmp.Lexicographic.{pointwise};
 ghost use Rattle.std.specs.List.{position};
-ghost use Rattle.rr_recovery.specs.Found.{found_state, nothing_found, with_cursor};
+ghost use Rattle.rr_recovery.specs.Found.{found_state, nothing_found, one_record, with_cursor};
 
 use rr_journal::Cursor;
 use rr_schema::Origin;
@@ -17,6 +17,8 @@ pub struct Found {
     pub cursors: Vec<Cursor>,
     /// How many cells the last checkpoint says that it has.
     pub end: Option<u64>,
+    /// How many records were read. It stops at its greatest value.
+    pub records: u64,
     /// How many cells were read. It stops at its greatest value.
     pub cells: u64,
 }
@@ -30,8 +32,16 @@ impl Found {
             origin: None,
             cursors: Vec::new(alloc),
             end: None,
+            records: 0,
             cells: 0,
         }
+    }
+
+    /// Counts a record.
+    pub(crate) fn count_record(&mut self)
+        ensures { found_state self.new ≡ one_record (found_state self.old) }
+    {
+        self.records = self.records.saturating_add(1);
     }
 
     /// Whether a checkpoint is whole, if its file is all that was read: its end was found, and

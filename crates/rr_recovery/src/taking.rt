@@ -125,7 +125,7 @@ pub(crate) fn meaning_of(
     }
 }
 
-/// Joins the cells of a record, or finds what it has besides.
+/// Counts a record, and joins its cells or finds what it has besides.
 pub(crate) fn take_record<A: Cells>(
     alloc: Global,
     raw: &RawRecord,
@@ -137,7 +137,9 @@ pub(crate) fn take_record<A: Cells>(
     ensures { Takes (recovery replica.old found.old) (recovery replica.new found.new)
         (taken_record (recovery replica.old found.old) (raw_of raw.now)) result }
 {
-    match meaning_of(alloc, raw, schema)? {
+    let meaning = meaning_of(alloc, raw, schema)?;
+    found.count_record();
+    match meaning {
         Record::Cells(groups) => take_groups(&groups, replica, found),
         Record::Origin(origin) => take_origin(origin, replica, found),
         Record::Cursor(cursor) => Ok(put_cursor(&mut found.cursors, cursor)?),

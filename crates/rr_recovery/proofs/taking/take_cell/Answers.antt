@@ -27,10 +27,11 @@ returns g c =
       origin = c.args.found.now.origin;
       cursors = c.args.found.now.cursors;
       end = c.args.found.now.end;
+      records = c.args.found.now.records;
       cells = c.saturating_add-found.result;
     }) ≡ with_one x e =
     λ i. record {
       replica = joined i;
-      found = record { origin = f.origin; cursors = f.cursors; end = f.end; cells = count i };
+      found = record { origin = f.origin; cursors = f.cursors; end = f.end; records = f.records; cells = count i };
     } in
     record { exact = one_taken x _ e other all; joins = (e ∷ [], joined) }

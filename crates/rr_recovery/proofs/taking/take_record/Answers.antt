@@ -16,6 +16,6 @@ take_groups-requires g c =
     let groups = c.in-Cells.groups.items in
     let read : record_meaning s r ≡ Ok (HasCells (map packed_cells groups)) =
     ap (λ (t : Layout). record_meaning t r) (sym c.requires)
-    ∙ as_bad_ok _ _ (c.in_ok-groups.ensures ∙ ap (λ (m : Record). Ok (meaning_of m)) c.in-Cells.is) in
+    ∙ as_bad_ok _ _ (c.in_ok-meaning.ensures ∙ ap (λ (m : Record). Ok (meaning_of m)) c.in-Cells.is) in
     subst (λ (l : List Group). AllByRecursion (IsCheckedGroup s) (map packed_cells l)) (sym c.deref.ensures.value)
     (cells_checked s r (map packed_cells groups) read)

@@ -1,0 +1,45 @@
+//! What is asked of a directory.
+
+use crate::name::FileName;
+use std::alloc::Global;
+use std::io::Read;
+use thiserror::Error;
+
+/// Why a call of a directory failed.
+#[derive(Clone, Copy, Debug, PartialEq, Eq, Error)]
+pub enum DirectoryFault {
+    /// It can't be listed, or a file isn't there or can't be opened.
+    #[error("the directory could not be read")]
+    ReadFailed,
+    /// Memory ran out.
+    #[error("out of memory")]
+    Memory,
+}
+
+/// A directory with the files of a node, which is read.
+///
+/// Contracts see it as the names and the bytes of its files, where these are known.
+pub trait Directory {
+    ghost use Rattle.std.specs.Prelude.{◌≡◌, ℕ, List, Option, Some, IfOk, IfSome, length};
+    ghost use Rattle.rr_directory.specs.declared.name.FileName.{FileName};
+
+    /// What a file is read from.
+    type Input: Read + Drop;
+
+    ghost files: { Self → Option (List FileName) };
+
+    ghost bytes: { Self → Option (FileName → List ℕ) };
+
+    /// The names of the files that are a node's, in any order.
+    fn names(&self, alloc: Global) -> Result<Vec<FileName>, DirectoryFault>
+        ensures { IfOk result (λ names. IfSome (files self.now) (λ all. names.items ≡ all)) };
+
+    /// Opens a file, to read it from its beginning.
+    fn open(&self, alloc: Global, name: FileName) -> Result<Self::Input, DirectoryFault>
+        ensures { IfOk result (λ input. IfSome (bytes self.now) (λ of.
+            Self.Input.remaining input ≡ Some (of name))) };
+
+    /// How many bytes a file has.
+    fn len(&self, alloc: Global, name: FileName) -> Result<u64, DirectoryFault>
+        ensures { IfOk result (λ len. IfSome (bytes self.now) (λ of. len ≡ length (of name))) };
+}

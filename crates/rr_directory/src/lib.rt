@@ -1,0 +1,34 @@
+//! What stands in a node's data directory, and a replica from it.
+//!
+//! A directory has files of the node's journal and checkpoints, each with an offset of the journal
+//! in its name ([`FileName`]); other files are none of a node's. [`start_of`] says which of them a
+//! start reads, by their names alone, and which are needless. [`recover`] reads these in order into
+//! a replica of a new origin, over a [`Directory`], by [`rr_recovery::replay`]: each file begins
+//! where the one before it ends, by the cursor in its header, and the journal's last file alone may
+//! end in a torn tail. The first file that a node doesn't start from is named, and why ([`Refusal`]).
+//!
+//! ```text
+//! names ── start_of ──> checkpoint, journal, journal .. ── recover ──> replica, Recovered
+//!                                        └── each: header ─> place ─> records ─> end
+//! ```
+//!
+//! In `specs/` what files make of a replica is a function of their bytes, file after file
+//! (`Reading.antt`).
+#![tactic(auto)]
+
+mod directory;
+mod ending;
+mod fault;
+mod file;
+mod memory;
+mod name;
+mod place;
+mod recovered;
+mod start;
+
+pub use directory::{Directory, DirectoryFault};
+pub use fault::{FileFault, Refusal};
+pub use memory::{MemoryDirectory, MemoryFile};
+pub use name::FileName;
+pub use recovered::{Recovered, recover};
+pub use start::{Start, start_of};

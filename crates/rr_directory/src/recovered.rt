@@ -1,0 +1,73 @@
+//! A replica from the files of a directory.
+ghost use Rattle.std.specs.Prelude.{◌≡◌, IfSome};
+ghost use Rattle.rr_replica.specs.ReplicaWithRoom.{replica_state};
+ghost use Rattle.rr_directory.specs.Reading.{after_files};
+ghost use Rattle.rr_directory.specs.Recovering.{IsNothing, Recovers, first_reached};
+
+use crate::directory::Directory;
+use crate::fault::Refusal;
+use crate::file::{NextFile, read_file};
+use crate::name::FileName;
+use rr_archive::Cells;
+use rr_journal::Cursor;
+use rr_recovery::Found;
+use rr_replica::Replica;
+use rr_schema::Schema;
+use std::alloc::Global;
+
+/// What was read of the files of a directory, besides the cells.
+#[derive(Debug, Drop)]
+pub struct Recovered {
+    /// What they have besides cells.
+    pub found: Found,
+    /// Where the journal ends, and is gone on with; none where no file was read.
+    pub end: Option<Cursor>,
+    /// How many bytes of a torn tail the last file has, which are to be cut off.
+    pub torn: u64,
+}
+
+impl Recovered {
+    /// Nothing yet. Takes no memory.
+    pub(crate) fn new(alloc: Global) -> Recovered
+        ensures { IsNothing result }
+    {
+        Recovered {
+            found: Found::new(alloc),
+            end: None,
+            torn: 0,
+        }
+    }
+}
+
+/// Reads files, in this order, into a replica: a checkpoint, if there is one, and then the journal's
+/// files, as [`start_of`](crate::start_of) gives them. Each has to name the schema of the replica
+/// and to begin where the one before it ends; a checkpoint has to be whole, and the journal's last
+/// file alone may have a torn tail.
+///
+/// Of the files in order the first that a node doesn't start from is refused before anything behind
+/// it is read. Then some cells are joined, and the replica is of no further use. The cost is linear
+/// in the bytes, and that of joining the cells; one record is in memory at a time.
+pub fn recover<A: Cells, D: Directory>(
+    alloc: Global,
+    directory: &D,
+    files: &[FileName],
+    schema: &Schema,
+    replica: &mut Replica<A>,
+) -> Result<Recovered, Refusal>
+    requires { schema.now ≡ replica.old.schema }
+    ensures { IfSome (D.bytes directory.now) (λ of. Recovers replica.new
+        (after_files schema.now of (first_reached (replica_state replica.old)) files.now) result) }
+{
+    let mut so_far = Recovered::new(alloc);
+    for (i, name) in files.iter().enumerate() {
+        let next = NextFile {
+            name: *name,
+            is_last: i + 1 == files.len(),
+        };
+        match read_file(alloc, directory, next, schema, replica, &mut so_far) {
+            Ok(()) => (),
+            Err(fault) => return Err(Refusal { file: *name, fault }),
+        }
+    }
+    Ok(so_far)
+}
