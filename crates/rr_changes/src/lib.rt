@@ -9,12 +9,12 @@
 //!
 //! [`ChangeTracker`] tracks them: at most two [`TimeRange`]s a series (`specs/Tracking.antt`).
 //! Before an operation is applied it is made `ready` for its series, and after that `track` can't
-//! fail. A joined cell that [`is_held`] already changes nothing, and isn't tracked. To write what changed, its `series` are listed in the order of their keys, and
-//! [`next_changes`] gives the cells in the slots of their ranges, so many at a time, each call after
-//! the last cell of the one before, until fewer come (`specs/Changes.antt`). Once they are written,
-//! it is cleared; if they aren't, the next list has them again. [`next_cells`] gives all cells in the
-//! same way, for a checkpoint. [`laws`] say what the cells of all
-//! calls come to.
+//! fail. A joined cell that [`is_held`] already changes nothing, and isn't tracked. To write what
+//! changed, its `series` are listed in the order of their keys, and [`next_changes`] gives the cells
+//! in the slots of their ranges, a number of them at a time, each call after the last cell of the
+//! one before, until fewer come (`specs/Changes.antt`). Once they are written, it is cleared; if they
+//! aren't, the next list has them again. For a checkpoint [`next_cells`] gives all cells in the same
+//! way. [`laws`] say what the cells of all calls come to.
 #![tactic(auto)]
 
 mod by_key;
