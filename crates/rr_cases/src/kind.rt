@@ -1,6 +1,8 @@
 //! The kinds of cases.
 
-use crate::{cells, configs, desks, documents, faults, keys, lines, pages, replicas, scripts};
+use crate::{
+    cells, configs, desks, documents, faults, journals, keys, lines, pages, replicas, scripts,
+};
 use anyhow::{Result, bail};
 use rr_archive::Cells;
 use std::alloc::Global;
@@ -37,6 +39,8 @@ pub(crate) enum Kind {
     Desk,
     /// A page in hexadecimal and changes of its bytes, and what each is read as.
     Page,
+    /// A journal's file in hexadecimal and changes of its bytes, and what a replay of each makes.
+    Journal,
 }
 
 impl Kind {
@@ -54,6 +58,7 @@ impl Kind {
             "calls" => Some(Kind::Replica),
             "desk" => Some(Kind::Desk),
             "page" => Some(Kind::Page),
+            "journal" => Some(Kind::Journal),
             _ => None,
         }
     }
@@ -126,6 +131,7 @@ impl Kind {
             Kind::Replica => replicas::answers::<A>(alloc, input),
             Kind::Desk => desks::answers::<A, T>(alloc, rt, input),
             Kind::Page => pages::answers(alloc, input),
+            Kind::Journal => journals::answers::<A>(alloc, input),
         }
     }
 }

@@ -18,6 +18,7 @@ mod documents;
 mod faults;
 mod files;
 mod growths;
+mod journals;
 mod keys;
 mod kind;
 mod lines;

@@ -50,6 +50,16 @@ part_more n after es sorted = go n after (cells_after after es) refl
     go (suc n) after (x ∷ xs) e =
         ap (λ l. x ∷ l) (go n (Some x.0) xs (after_next after es x xs sorted e))
 
+-- of the cells after a name so many were asked for, and fewer came: they are all
+pub all_few : (limit : ℕ) (after : Option CellName) (es : List NamedCell)
+    → nat_lt (length (next_of limit after es)) limit ≡ true → next_of limit after es ≡ cells_after after es
+all_few limit after es t =
+    let few : length (next_of limit after es) < limit = grind (arith, nat_tests) in
+    take_all (cells_after after es) limit (short (cells_after after es) few)
+  where
+    short : (l : List NamedCell) → length (take limit l) < limit → length l ≤ limit
+    short l few = omega (arith, length-take limit l)
+
 -- a batch and those after it, where these are the cells after it
 with_batch : (limit : ℕ) (after : Option CellName) (es b : List NamedCell) (batches : List (List NamedCell))
     → T (is_sorted cell_name_cmp es) → b ≡ next_of limit after es → (c : Bool) → nat_lt (length b) limit ≡ c
@@ -58,13 +68,8 @@ with_batch : (limit : ℕ) (after : Option CellName) (es b : List NamedCell) (ba
     → flat_map (λ b. b) batches ≡ cells_after (last_name after b) es)
     → b ++ flat_map (λ b. b) batches ≡ cells_after after es
 with_batch limit after es b batches sorted is true t last later =
-    let few : length b < limit = grind (arith, nat_tests) in
     ap (λ (bs : List (List NamedCell)). b ++ flat_map (λ b. b) bs) last ∙ append-nil b ∙ is
-    ∙ take_all (cells_after after es) limit (short (cells_after after es)
-    (subst (λ (l : List NamedCell). length l < limit) is few))
-  where
-    short : (l : List NamedCell) → length (take limit l) < limit → length l ≤ limit
-    short l few = omega (arith, length-take limit l)
+    ∙ all_few limit after es (ap (λ (l : List NamedCell). nat_lt (length l) limit) (sym is) ∙ t)
 with_batch limit after es b batches sorted is false t more later =
     ap (λ l. b ++ l) (later more)
     ∙ ap (λ (l : List NamedCell). l ++ cells_after (last_name after l) es) is

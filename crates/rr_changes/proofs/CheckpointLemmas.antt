@@ -1,9 +1,10 @@
 -- Checkpoints that are read while a node goes on.
-use Rattle.std.proofs.Common.{◌≡◌, suc, Bool, true, false, cond, List, [], ◌∷◌, ◌++◌, map, refl, sym, ap, ◌∙◌, subst, arith, true≢false, ⊎_elim, ◌⊎◌, inl, inr, Option, Some, None}
-use Rattle.std.specs.Prelude.{All, Contains}
-use Rattle.std.specs.List.{AllByRecursion, filter}
+use Rattle.std.proofs.Common.{ℕ, ◌≡◌, suc, Bool, true, false, cond, List, [], ◌∷◌, ◌++◌, map, refl, sym, ap, ◌∙◌, subst, arith, true≢false, ⊎_elim, ◌⊎◌, inl, inr, Option, Some, None, length}
+use Rattle.std.specs.Prelude.{nat_lt, MatchBool, All, Contains}
+use Rattle.std.specs.List.{AllByRecursion, filter, flat_map}
 use Rattle.std.specs.Ordering.{eq_by_cmp, is_lt}
 use Rattle.std.specs.FinMap.{get, empty, entries, entries_sorted, find, get-entries, get-empty}
+use Rattle.std.proofs.lemmas.List.{append-nil}
 use Rattle.std.proofs.lemmas.List.Elements.{All-contains, All-contains_itself, All-filter, All-from_recursion, All-take, All-weaker, Contains-append_cases, Contains-append_left, Contains-append_right, filter_passes, recursion_from_All}
 use Rattle.rr_schema.specs.Schema.{Layout, IsLayout}
 use Rattle.rr_join.proofs.Members.{same_from_tie}
@@ -15,14 +16,14 @@ use Rattle.rr_cells.specs.Joins.{join_cell, join_cells}
 use Rattle.rr_delta.specs.Summaries.{cells_after}
 use Rattle.rr_changes.specs.Changes.{last_name, next_of}
 use Rattle.rr_changes.specs.Updates.{Holds, Write, AreWrites, last_cells, written_cells}
-use Rattle.rr_changes.specs.Checkpoints.{AreFrom, WasHeld, IsCheckpoint, Batch, walked, GoesForward}
-use Rattle.rr_changes.specs.CheckpointLaws.{CheckpointsBringAll, CheckpointsBringWhatWasHeld, CheckpointsMakeTheLast, WalksBringAll, WalksBringWhatWasHeld, WalksMakeTheLast}
+use Rattle.rr_changes.specs.Checkpoints.{AreFrom, WasHeld, IsCheckpoint, Batch, walked, GoesForward, Read, AreReads, batches_of, end_of}
+use Rattle.rr_changes.specs.CheckpointLaws.{CheckpointsBringAll, CheckpointsBringWhatWasHeld, CheckpointsMakeTheLast, WalksBringAll, WalksBringWhatWasHeld, WalksMakeTheLast, ReadsAreAWalk}
 use Rattle.rr_cells.proofs.CellByCell.{join_goes_by_cells, join_nothing, trimmed_none}
 use Rattle.rr_cells.proofs.HeldCells.{all_entries}
 use Rattle.rr_cells.proofs.JoinLaws.{join_itself}
 use Rattle.rr_cells.proofs.Orders.{cell_name_cmp_total, cell_name_cmp-IsAntisymmetric}
 use Rattle.rr_changes.proofs.AddingLemmas.{join_cases}
-use Rattle.rr_changes.proofs.BatchLemmas.{part_more}
+use Rattle.rr_changes.proofs.BatchLemmas.{all_few, part_more}
 use Rattle.rr_changes.proofs.HoldingLemmas.{nowhere, one, only, holds_entries, holds_further, holds_trimmed, hold_each_other, still_held, each_held, made_held, brought, last_holds}
 use Rattle.rr_changes.proofs.PastLemmas.{cover_of, holds_covered}
 
@@ -319,3 +320,32 @@ walks_make_the_last s m writes batches last es is kept are goes until among othe
     (λ e has. holds_further s is (last_cells m writes) last (one e) until
     (walked_is_held s is batches None m last goes e has))
     among others
+
+-- ---- as it is read
+
+-- the reads after the first, where more follow
+with_read : (limit : ℕ) (after : Option CellName) (r : Read) (reads : List Read) (c : Bool)
+    → nat_lt (length r.cells) limit ≡ c → r.cells ≡ next_of limit after (entries r.held)
+    → MatchBool c (reads ≡ []) (AreReads limit (last_name after r.cells) reads)
+    → ((next : Option CellName) → AreReads limit next reads
+    → flat_map (λ r. r.cells) reads ≡ walked next (batches_of limit reads) (end_of r.held reads))
+    → r.cells ++ flat_map (λ r. r.cells) reads ≡ walked after (batches_of limit (r ∷ reads)) (end_of r.held reads)
+with_read limit after r [] true t is last later =
+    append-nil r.cells ∙ is
+    ∙ all_few limit after (entries r.held) (ap (λ (l : List NamedCell). nat_lt (length l) limit) (sym is) ∙ t)
+with_read limit after r (q ∷ reads) true t is last later = absurd cc
+with_read limit after r [] false t is more later = absurd more
+with_read limit after r (q ∷ reads) false t is more later =
+    ap (λ l. r.cells ++ l) (later (last_name after r.cells) more)
+    ∙ ap (λ (l : List NamedCell). l ++ walked (last_name after l) (batches_of limit (q ∷ reads)) (end_of r.held
+    (q ∷ reads))) is
+
+reads_from : (limit : ℕ) (reads : List Read) (after : Option CellName) (m : Cells) → AreReads limit after reads
+    → flat_map (λ r. r.cells) reads ≡ walked after (batches_of limit reads) (end_of m reads)
+reads_from limit [] after m are = absurd are
+reads_from limit (r ∷ reads) after m are =
+    with_read limit after r reads (nat_lt (length r.cells) limit) refl are.0 are.1
+    (λ next more. reads_from limit reads next r.held more)
+
+pub reads_are_a_walk : ReadsAreAWalk
+reads_are_a_walk limit reads m are = reads_from limit reads None m are

@@ -1,5 +1,6 @@
 -- The laws of checkpoints, each the contract of a function of `src/laws/checkpoints.rt`.
-use Rattle.std.specs.Prelude.{◌≡◌, List, ◌∷◌, ◌++◌, map, None, Some, All, Contains}
+use Rattle.std.specs.Prelude.{◌≡◌, ℕ, List, ◌∷◌, ◌++◌, map, None, Some, All, Contains}
+use Rattle.std.specs.List.{flat_map}
 use Rattle.std.specs.FinMap.{empty, get}
 use Rattle.rr_schema.specs.Schema.{Layout, IsLayout}
 use Rattle.rr_contrib.specs.declared.contribution.Contribution.{Contribution}
@@ -8,7 +9,7 @@ use Rattle.rr_cells.specs.CellBounds.{NamedCell}
 use Rattle.rr_cells.specs.Cells.{Cells, IsTrimmed}
 use Rattle.rr_cells.specs.Joins.{join_cells}
 use Rattle.rr_changes.specs.Updates.{Holds, Write, AreWrites, last_cells, written_cells}
-use Rattle.rr_changes.specs.Checkpoints.{AreFrom, AreUpTo, WasHeld, IsCheckpoint, Batch, walked, GoesForward}
+use Rattle.rr_changes.specs.Checkpoints.{AreFrom, AreUpTo, WasHeld, IsCheckpoint, Batch, walked, GoesForward, Read, AreReads, batches_of, end_of}
 
 -- ---- key by key, each key at a moment of its own
 
@@ -62,3 +63,9 @@ WalksMakeTheLast =
     → Holds s (last_cells m writes) last → All (Contains es) (walked None batches last ++ written_cells writes)
     → All (Contains (walked None batches last ++ written_cells writes)) es
     → join_cells s empty es ≡ last_cells m writes
+
+-- whoever reads so many cells at a time, until fewer come, reads a walk
+abbrev pub ReadsAreAWalk : Type 0
+ReadsAreAWalk =
+    (limit : ℕ) (reads : List Read) (m : Cells) → AreReads limit None reads
+    → flat_map (λ r. r.cells) reads ≡ walked None (batches_of limit reads) (end_of m reads)

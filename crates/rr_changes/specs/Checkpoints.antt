@@ -1,5 +1,5 @@
 -- Checkpoints: cells of a node that were read while it went on, so that they are of different moments.
-use Rattle.std.specs.Prelude.{◌≡◌, ℕ, List, [], ◌∷◌, ◌++◌, Option, Some, All, Contains, ◌↔◌}
+use Rattle.std.specs.Prelude.{◌≡◌, ◌↔◌, ℕ, nat_lt, MatchBool, List, [], ◌∷◌, ◌++◌, length, Option, Some, All, Contains}
 use Rattle.std.specs.FinMap.{get, entries}
 use Rattle.rr_schema.specs.Schema.{Layout}
 use Rattle.rr_contrib.specs.declared.contribution.Contribution.{Contribution}
@@ -53,3 +53,29 @@ walked after (b ∷ batches) last =
 abbrev pub GoesForward : Layout → Cells → List Batch → Cells → Type 0
 GoesForward s m [] last = Holds s last m
 GoesForward s m (b ∷ batches) last = Holds s b.held m × GoesForward s b.held batches last
+
+-- ---- as it is read
+
+-- what was held when cells were read, and the cells
+pub record Read : Type 0 where
+  pub held : Cells
+  pub cells : List NamedCell
+
+-- what is read by one call after the other, each for at most so many cells after those of the call before, until fewer
+-- come
+abbrev pub AreReads : ℕ → Option CellName → List Read → Type 0
+AreReads limit after [] = ⊥
+AreReads limit after (r ∷ reads) =
+    (r.cells ≡ next_of limit after (entries r.held))
+    × MatchBool (nat_lt (length r.cells) limit) (reads ≡ []) (AreReads limit (last_name after r.cells) reads)
+
+-- all of them but the last, as batches of a walk
+abbrev pub batches_of : ℕ → List Read → List Batch
+batches_of limit [] = []
+batches_of limit (r ∷ []) = []
+batches_of limit (r ∷ q ∷ reads) = record { limit = limit; held = r.held } ∷ batches_of limit (q ∷ reads)
+
+-- what was held at the last of them, at which the walk ends; else another map
+abbrev pub end_of : Cells → List Read → Cells
+end_of m [] = m
+end_of m (r ∷ reads) = end_of r.held reads

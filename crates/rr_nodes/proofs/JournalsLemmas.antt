@@ -1,10 +1,11 @@
 -- Journals of nodes: their cells were held, to read them is to take cells, and who took all holds all.
-use Rattle.std.proofs.Common.{◌≡◌, ◌≢◌, ℕ, zero, suc, ◌+◌, ℤ, Bool, true, false, cond, ◌||◌, List, [], ◌∷◌, ◌++◌, map, fold, length, slice_get, append_assoc, refl, sym, ap, ◌∙◌, subst, true≢false, Option, Some, None, is_some}
+use Rattle.std.proofs.Common.{arith, ◌≡◌, ◌≢◌, ℕ, zero, suc, ◌+◌, ℤ, Bool, true, false, cond, ◌||◌, List, [], ◌∷◌, ◌++◌, map, fold, length, slice_get, append_assoc, refl, sym, ap, ◌∙◌, subst, true≢false, Option, Some, None, is_some}
 use Rattle.std.specs.Prelude.{nat_le, if◌then◌else◌, All, Contains}
-use Rattle.std.specs.List.{AllByRecursion}
+use Rattle.std.specs.List.{AllByRecursion, filter}
 use Rattle.std.specs.Ordering.{nat_cmp, eq_by_cmp}
 use Rattle.std.specs.Cmp.{nat_cmp_total}
-use Rattle.std.specs.FinMap.{empty, get, insert, contains_key, get-empty, get-insert, nat_cmp-IsAntisymmetric}
+use Rattle.std.specs.FinMap.{empty, get, insert, keys, contains_key, get-empty, get-insert, nat_cmp-IsAntisymmetric}
+use Rattle.std.proofs.lemmas.Bool.Decides.{nat_tests}
 use Rattle.std.proofs.lemmas.List.Elements.{All-contains, All-contains_itself, All-head, All-tail, All-weaker, recursion_from_All}
 use Rattle.std.proofs.lemmas.List.Sums.{fold-append}
 use Rattle.rr_text.specs.declared.limits.TheConstants.{MAX_NUMBER}
@@ -18,8 +19,12 @@ use Rattle.rr_cells.specs.CellBounds.{NamedCell}
 use Rattle.rr_cells.specs.Cells.{Cells, IsTrimmed}
 use Rattle.rr_cells.specs.declared.cell.Cell.{Cell}
 use Rattle.rr_cells.specs.declared.op.Op.TheVariants.{Join}
-use Rattle.rr_cells.specs.Joins.{join_cell, join_cells}
-use Rattle.rr_cells.specs.Knowledge.{Knowledge, knows, union, with_marks}
+use Rattle.rr_cells.specs.Joins.{join, join_cell, join_cells}
+use Rattle.rr_cells.specs.Knowledge.{Knowledge, knows, live, union, with_marks, cells_named, difference}
+use Rattle.rr_cells.specs.Versions.{is_newer, newer_names}
+use Rattle.rr_cells.proofs.Deliveries.{difference_brings_all}
+use Rattle.rr_cells.proofs.Differing.{difference_is_by_versions}
+use Rattle.rr_cells.proofs.Writes.{union_is_closed}
 use Rattle.rr_cells.specs.Listing.{owned_cell}
 use Rattle.rr_cells.specs.Samples.{Mark, marks_of}
 use Rattle.rr_cells.specs.State.{cells_of_knowledge}
@@ -36,49 +41,44 @@ use Rattle.rr_nodes.specs.Nodes.{Node, Nodes, Model, Moment, Deed, opened, wrote
 use Rattle.rr_nodes.specs.Models.{cell_model, sample_model}
 use Rattle.rr_nodes.specs.Calls.{Call, Desk, Desks, Leave, joins, kept_by}
 use Rattle.rr_nodes.specs.Sessions.{now_at}
-use Rattle.rr_nodes.specs.Journals.{AreMomentsOf, WasElsewhere, WrittenWereHeld, CheckpointsWereHeld, WalksWereHeld, takes_of, ReadCellsAreDeeds, ReadCellsAreAKeepers, WasAtADesk, ReadCellsAreJoins, NodesOnlyAdd, HasTaken, TakenAreHeld, JournalsBringAll, CheckpointedBringAll, WalkedBringAll}
+use Rattle.rr_nodes.specs.Journals.{AreMomentsElsewhere, WasElsewhere, WrittenWereHeld, CheckpointsWereHeld, WalksWereHeld, takes_of, ReadCellsAreDeeds, ReadCellsAreAKeepers, WasAtADesk, ReadCellsAreJoins, NodesOnlyAdd, HasTaken, HoldersKnowAll, TakenAreHeld, JournalsBringAll, CheckpointedBringAll, WalkedBringAll}
 use Rattle.rr_nodes.proofs.CallsLemmas as calls
 use Rattle.rr_nodes.proofs.DeedsLemmas.{from_cells, held_then, premises_are_kept}
 use Rattle.rr_nodes.proofs.KeepersLemmas.{join_is_a_deed}
 use Rattle.rr_nodes.proofs.NodesLemmas.{held_is_closed}
-use Rattle.rr_nodes.proofs.PullsLemmas.{held_elsewhere}
+use Rattle.rr_nodes.proofs.PullsLemmas.{held_elsewhere, none_more}
 
 -- ---- what stands in a journal
 
 -- a cell of one of these moments was held elsewhere
-was_elsewhere : (ns : Nodes Cells) (origin there : ℕ) (moments : List Cells) (held : Cells) (e : NamedCell)
-    → there ≢ origin → AreMomentsOf ns there moments → Contains moments held → get held e.0 ≡ Some e.1
+was_elsewhere : (ns : Nodes Cells) (origin : ℕ) (moments : List Cells) (held : Cells) (e : NamedCell)
+    → AreMomentsElsewhere ns origin moments → Contains moments held → get held e.0 ≡ Some e.1
     → WasElsewhere ns origin e
-was_elsewhere ns origin there moments held e other are among cell =
-    let at = All-contains (λ held. (ago : ℕ) × (held_at ns (record { origin = there; ago = ago }) ≡ Some held))
-    moments held are among in record {
-      there = record { origin = there; ago = at.0 };
-      other = other;
-      held = held;
-      was = at.1;
-      cell = cell;
-    }
+was_elsewhere ns origin moments held e are among cell =
+    let at = All-contains (λ held. (there : Moment) × (there.origin ≢ origin) × (held_at ns there ≡ Some held)) moments
+    held are among in
+    record { there = at.0; other = at.1; held = held; was = at.2; cell = cell }
 
 pub written_were_held : WrittenWereHeld
-written_were_held s ns origin there m writes other are moments =
+written_were_held s ns origin m writes are moments =
     All-weaker (Contains (written_cells writes)) (WasElsewhere ns origin) (λ e has.
     let held = written_was_held s writes m are e has in
-    was_elsewhere ns origin there (map (λ w. w.cells) writes) held.0 e other moments held.1 held.2)
+    was_elsewhere ns origin (map (λ w. w.cells) writes) held.0 e moments held.1 held.2)
     (written_cells writes) (All-contains_itself (written_cells writes))
 
 pub checkpoints_were_held : CheckpointsWereHeld
-checkpoints_were_held ns origin there moments cells other of are =
+checkpoints_were_held ns origin moments cells of are =
     All-weaker (Contains cells) (WasElsewhere ns origin) (λ e has.
     let moment = of e.0.key in
-    was_elsewhere ns origin there moments moment.0 e other are moment.1 ((moment.2 e.0 e.1 refl).0 has))
+    was_elsewhere ns origin moments moment.0 e are moment.1 ((moment.2 e.0 e.1 refl).0 has))
     cells (All-contains_itself cells)
 
 pub walks_were_held : WalksWereHeld
-walks_were_held ns origin there batches last other are =
+walks_were_held ns origin batches last are =
     let cells = walked None batches last in
     All-weaker (Contains cells) (WasElsewhere ns origin) (λ e has.
     let held = walked_was_held batches None last [] e has in
-    was_elsewhere ns origin there (map (λ b. b.held) batches ++ last ∷ []) held.0 e other are held.1 held.2)
+    was_elsewhere ns origin (map (λ b. b.held) batches ++ last ∷ []) held.0 e are held.1 held.2)
     cells (All-contains_itself cells)
 
 -- ---- what is read
@@ -405,6 +405,56 @@ nodes_only_add s deeds origin ago m x is was now =
     either true b h = refl
     either false true h = sym (h refl)
     either false false h = refl
+
+-- none of the cells of a map is newer than itself
+none_newer : (m : Cells) → newer_names m m ≡ []
+unfolding newer_names
+none_newer m = by (keys m)
+  where
+    not_newer : (o : Option Contribution) → is_newer o o ≡ false
+    not_newer None = refl
+    not_newer (Some c) = grind (arith, nat_tests)
+
+    by : (ns : List CellName) → filter (λ q. is_newer (get m q) (get m q)) ns ≡ []
+    by [] = refl
+    by (n ∷ ns) = ap (λ b. cond b (n ∷ filter (λ q. is_newer (get m q) (get m q)) ns)
+        (filter (λ q. is_newer (get m q) (get m q)) ns)) (not_newer (get m n)) ∙ by ns
+
+pub holders_know_all : HoldersKnowAll
+holders_know_all s deeds origin there m x is was now holds =
+    let ns = after_all sample_model s deeds in
+    let kept = premises_are_kept s deeds is in
+    let old = from_cells s (held_at ns there) m (sym (held_then s deeds there is) ∙ was) in
+    let new = from_cells s (held_at ns (now_at origin)) x (sym (held_then s deeds (now_at origin) is) ∙ now) in
+    let k = new.0 in
+    let l = old.0 in
+    let ck = held_is_closed s kept.0 ns kept.1 (now_at origin) k new.1 in
+    let cl = held_is_closed s kept.0 ns kept.1 there l old.1 in
+    let both = union k l in
+    let same : cells_of_knowledge s both ≡ cells_of_knowledge s k =
+    sym (join_states s is kept.0 k l ck cl)
+    ∙ ap (λ (c : Cells). join s c (cells_of_knowledge s l)) new.2 ∙ ap (λ (c : Cells). join s x c) old.2 ∙ holds
+    ∙ sym new.2 in
+    let none : difference s both k ≡ [] =
+    sym (difference_is_by_versions s kept.0 both k is (union_is_closed s kept.0 k l is ck cl) ck)
+    ∙ ap (λ (c : Cells). newer_names c (cells_of_knowledge s k)) same ∙ none_newer (cells_of_knowledge s k) in
+    record {
+      known = k;
+      is_known = new.1;
+      given = l;
+      is_given = old.1;
+      marks = ap (live s) (none_more s both k) ∙ ap (λ (names : List CellName). live s (union k (cells_named s both names)))
+          (sym none) ∙ difference_brings_all s both k is ∙ ap (live s) (all_of k l);
+    }
+  where
+    all_of : (k l : Knowledge) → union k (union k l) ≡ union k l
+    all_of k l = same_knowledge (union k (union k l)) (union k l) (λ m.
+        knows-union k (union k l) m ∙ ap (λ b. knows k m || b) (knows-union k l m)
+        ∙ twice (knows k m) (knows l m) ∙ sym (knows-union k l m))
+      where
+        twice : (a b : Bool) → (a || (a || b)) ≡ (a || b)
+        twice true b = refl
+        twice false b = refl
 
 -- ---- what was taken is held
 

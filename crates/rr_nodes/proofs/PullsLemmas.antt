@@ -57,7 +57,7 @@ module _ (s : Layout) (l : Knowledge) where
   abbrev with_cells : Knowledge → List CellName → Knowledge
   with_cells k names = fold (λ j name. union j (cells_where s l (eq_by_cmp cell_name_cmp name))) k names
 
-  none_more : (k : Knowledge) → k ≡ union k (cells_named s l [])
+  pub none_more : (k : Knowledge) → k ≡ union k (cells_named s l [])
   none_more k = same_knowledge k (union k (cells_named s l [])) (λ m.
       by (knows k m) (knows l m && is_live_in s l (name_of s m))
       ∙ ap (λ b. knows k m || b) (sym (knows-cells_where s l (λ n. list_any (eq_by_cmp cell_name_cmp n) []) m))

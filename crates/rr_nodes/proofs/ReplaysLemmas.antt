@@ -86,14 +86,14 @@ whole_among s (r ∷ rs) n ms whole all first e has = by (nat_le (record_len r) 
         absurd (nowhere e (subst (λ (l : List Meaning). Contains (cells_of_all l) e) (sym none) has))
 
 pub prefixes_are_deeds : PrefixesAreDeeds
-prefixes_are_deeds s deeds origin there m writes before rs n x y other are moments fit only schema now taken =
+prefixes_are_deeds s deeds origin m writes before rs n x y are moments fit only schema now taken =
     let ns = after_all cell_model s deeds in
     let whole = whole_within n rs in
     let read : taken_records x whole ≡ Ok y =
     ap (λ (l : List Raw). taken_records x l) (sym (prefixes_are_read before rs n fit).0) ∙ taken in
     let t = taken_join s x y whole schema read in
     let es = cells_of_all t.0 in
-    let held = written_were_held s ns origin there m writes other are moments in
+    let held = written_were_held s ns origin m writes are moments in
     let deeds_of = read_cells_are_deeds s deeds origin (cells_in x) es now
     (All-weaker (Contains es) (WasElsewhere ns origin) (λ e has.
     All-contains (WasElsewhere ns origin) (written_cells writes) e held

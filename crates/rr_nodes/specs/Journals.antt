@@ -8,6 +8,7 @@ use Rattle.rr_cells.specs.Cells.{Cells, IsTrimmed}
 use Rattle.rr_cells.specs.declared.cell.Cell.{Cell}
 use Rattle.rr_cells.specs.declared.op.Op.{Op}
 use Rattle.rr_cells.specs.Joins.{join_cells}
+use Rattle.rr_cells.specs.Knowledge.{Knowledge, live, union}
 use Rattle.rr_cells.specs.Listing.{owned_cell}
 use Rattle.rr_cells.specs.Operations.{outcome_of}
 use Rattle.rr_changes.specs.Updates.{Holds, Write, AreWrites, last_cells, written_cells}
@@ -15,17 +16,18 @@ use Rattle.rr_changes.specs.Checkpoints.{AreFrom, IsCheckpoint, Batch, GoesForwa
 use Rattle.rr_desk.specs.KeeperState.{KeeperState}
 use Rattle.rr_desk.specs.ReaderState.{with_joined}
 use Rattle.rr_nodes.specs.Nodes.{Node, Nodes, Moment, Deed, took, held_at, after_all, taken}
-use Rattle.rr_nodes.specs.Models.{cell_model}
+use Rattle.rr_nodes.specs.Models.{cell_model, sample_model}
 use Rattle.rr_nodes.specs.Keepers.{IsNode}
 use Rattle.rr_nodes.specs.Calls.{Call, Desk, Desks, HasBegun, Leave}
 use Rattle.rr_nodes.specs.Sessions.{now_at}
 
 -- ---- what stands in a journal
 
--- each of these is what the node of an origin held at some moment
-abbrev pub AreMomentsOf : Nodes Cells → ℕ → List Cells → Type 0
-AreMomentsOf ns origin moments =
-    All (λ held. (ago : ℕ) × (held_at ns (record { origin = origin; ago = ago }) ≡ Some held)) moments
+-- each of these is what a node other than that of an origin held at some moment; a journal is of several nodes, since
+-- each start is one under an origin of its own
+abbrev pub AreMomentsElsewhere : Nodes Cells → ℕ → List Cells → Type 0
+AreMomentsElsewhere ns origin moments =
+    All (λ held. (there : Moment) × (there.origin ≢ origin) × (held_at ns there ≡ Some held)) moments
 
 -- a cell as a node other than that of an origin held it at some moment
 pub record WasElsewhere (ns : Nodes Cells) (origin : ℕ) (e : NamedCell) : Type 0 where
@@ -35,24 +37,24 @@ pub record WasElsewhere (ns : Nodes Cells) (origin : ℕ) (e : NamedCell) : Type
   pub was : held_at ns there ≡ Some held
   pub cell : get held e.0 ≡ Some e.1
 
--- so is each cell that a node writes, where the cells of each write are what it held
+-- so is each cell that was written, where the cells of each write are what was held elsewhere
 abbrev pub WrittenWereHeld : Type 0
 WrittenWereHeld =
-    (s : Layout) (ns : Nodes Cells) (origin there : ℕ) (m : Cells) (writes : List Write) → there ≢ origin
-    → AreWrites s m writes → AreMomentsOf ns there (map (λ w. w.cells) writes)
+    (s : Layout) (ns : Nodes Cells) (origin : ℕ) (m : Cells) (writes : List Write) → AreWrites s m writes
+    → AreMomentsElsewhere ns origin (map (λ w. w.cells) writes)
     → All (WasElsewhere ns origin) (written_cells writes)
 
 -- and each of a checkpoint, read key by key or so many cells at a time
 abbrev pub CheckpointsWereHeld : Type 0
 CheckpointsWereHeld =
-    (ns : Nodes Cells) (origin there : ℕ) (moments : List Cells) (cells : List NamedCell) → there ≢ origin
-    → IsCheckpoint moments cells → AreMomentsOf ns there moments
+    (ns : Nodes Cells) (origin : ℕ) (moments : List Cells) (cells : List NamedCell) → IsCheckpoint moments cells
+    → AreMomentsElsewhere ns origin moments
     → All (WasElsewhere ns origin) cells
 
 abbrev pub WalksWereHeld : Type 0
 WalksWereHeld =
-    (ns : Nodes Cells) (origin there : ℕ) (batches : List Batch) (last : Cells) → there ≢ origin
-    → AreMomentsOf ns there (map (λ b. b.held) batches ++ last ∷ [])
+    (ns : Nodes Cells) (origin : ℕ) (batches : List Batch) (last : Cells)
+    → AreMomentsElsewhere ns origin (map (λ b. b.held) batches ++ last ∷ [])
     → All (WasElsewhere ns origin) (walked None batches last)
 
 -- ---- what is read of journals
@@ -108,6 +110,22 @@ NodesOnlyAdd =
     → held_at (after_all cell_model s deeds) (record { origin = origin; ago = ago }) ≡ Some m
     → held_at (after_all cell_model s deeds) (now_at origin) ≡ Some x
     → Holds s x m
+
+-- the live marks of what was known at a moment are among those that the node of an origin knows
+pub record KnowsAll (s : Layout) (deeds : List Deed) (origin : ℕ) (there : Moment) : Type 0 where
+  pub known : Knowledge
+  pub is_known : held_at (after_all sample_model s deeds) (now_at origin) ≡ Some known
+  pub given : Knowledge
+  pub is_given : held_at (after_all sample_model s deeds) there ≡ Some given
+  pub marks : live s known ≡ live s (union known given)
+
+-- so it is where the node holds all that was held then, and it answers by these samples too
+abbrev pub HoldersKnowAll : Type 0
+HoldersKnowAll =
+    (s : Layout) (deeds : List Deed) (origin : ℕ) (there : Moment) (m x : Cells) → IsLayout s
+    → held_at (after_all cell_model s deeds) there ≡ Some m
+    → held_at (after_all cell_model s deeds) (now_at origin) ≡ Some x → Holds s x m
+    → KnowsAll s deeds origin there
 
 -- among these deeds the node of an origin took a cell
 pub record HasTaken (s : Layout) (deeds : List Deed) (origin : ℕ) (e : NamedCell) : Type 0 where

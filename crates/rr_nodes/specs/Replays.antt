@@ -1,5 +1,5 @@
 -- Journals by their bytes: what is read of one, wherever it is cut, are deeds, and what was synced brings all.
-use Rattle.std.specs.Prelude.{◌≡◌, ◌≢◌, ◌≤◌, ℕ, List, ◌++◌, length, map, take, Some, Ok, All, Contains}
+use Rattle.std.specs.Prelude.{◌≡◌, ◌≤◌, ℕ, List, ◌++◌, length, map, take, Some, Ok, All, Contains}
 use Rattle.rr_schema.specs.Schema.{Layout, IsLayout}
 use Rattle.rr_cells.specs.CellNames.{CellName}
 use Rattle.rr_cells.specs.CellBounds.{NamedCell}
@@ -14,7 +14,7 @@ use Rattle.rr_recovery.specs.Taking.{Recovery, taken_records}
 use Rattle.rr_nodes.specs.Nodes.{Moment, Deed, held_at, after_all}
 use Rattle.rr_nodes.specs.Models.{cell_model}
 use Rattle.rr_nodes.specs.Sessions.{now_at}
-use Rattle.rr_nodes.specs.Journals.{AreMomentsOf, takes_of}
+use Rattle.rr_nodes.specs.Journals.{AreMomentsElsewhere, takes_of}
 
 -- each cell of these records is one of these cells
 pub record HaveOnly (s : Layout) (cells : List NamedCell) (rs : List Raw) : Type 0 where
@@ -33,12 +33,12 @@ abbrev pub cells_in : Recovery → Cells
 cells_in x = x.replica.cells
 
 -- where the records of a journal have what its node wrote, whatever is read of its bytes, wherever they are cut, are
--- deeds: they make of a node that held the same what reading makes of a replica
+-- deeds: of a node that held the same they make what the replay makes of a replica
 abbrev pub PrefixesAreDeeds : Type 0
 PrefixesAreDeeds =
-    (s : Layout) (deeds : List Deed) (origin there : ℕ) (m : Cells) (writes : List Write) (before : List ℕ)
-    (rs : List Raw) (n : ℕ) (x y : Recovery) → there ≢ origin → AreWrites s m writes
-    → AreMomentsOf (after_all cell_model s deeds) there (map (λ w. w.cells) writes) → AllFit rs
+    (s : Layout) (deeds : List Deed) (origin : ℕ) (m : Cells) (writes : List Write) (before : List ℕ)
+    (rs : List Raw) (n : ℕ) (x y : Recovery) → AreWrites s m writes
+    → AreMomentsElsewhere (after_all cell_model s deeds) origin (map (λ w. w.cells) writes) → AllFit rs
     → HaveOnly s (written_cells writes) rs → x.replica.schema ≡ s
     → held_at (after_all cell_model s deeds) (now_at origin) ≡ Some (cells_in x)
     → taken_records x (records_of before (take n (records_text before rs))).0 ≡ Ok y

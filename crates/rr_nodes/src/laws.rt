@@ -4,7 +4,7 @@ ghost use Rattle.rr_nodes.specs.Keepers.{OpeningIsANode, PutIsADeed, WriteIsDeed
 ghost use Rattle.rr_nodes.specs.Example.{ThreeAnswer};
 ghost use Rattle.rr_nodes.specs.Calls.{CallsAnswerFromSamples, WritesArePuts, PagesAreJoins};
 ghost use Rattle.rr_nodes.specs.Giving.{GivenAreThere, UnusedHaveNoCells, SavedIsLoadedElsewhere};
-ghost use Rattle.rr_nodes.specs.Journals.{WrittenWereHeld, CheckpointsWereHeld, WalksWereHeld, ReadCellsAreDeeds, ReadCellsAreAKeepers, ReadCellsAreJoins, NodesOnlyAdd, TakenAreHeld, JournalsBringAll, CheckpointedBringAll, WalkedBringAll};
+ghost use Rattle.rr_nodes.specs.Journals.{WrittenWereHeld, CheckpointsWereHeld, WalksWereHeld, ReadCellsAreDeeds, ReadCellsAreAKeepers, ReadCellsAreJoins, NodesOnlyAdd, HoldersKnowAll, TakenAreHeld, JournalsBringAll, CheckpointedBringAll, WalkedBringAll};
 ghost use Rattle.rr_nodes.specs.Models.{cell_model, sample_model};
 ghost use Rattle.rr_nodes.specs.Pulls.{TakesAreInOrder, PullsBringAll};
 ghost use Rattle.rr_nodes.specs.Replays.{PrefixesAreDeeds, SyncedBringAll, ReplaysMakeTheLast};
@@ -114,11 +114,13 @@ pub fn journals_are_deeds()
     ensures calls { ReadCellsAreJoins }
 {}
 
-/// What a node holds has all that it held before. So whoever took each cell of a journal up to some
-/// write, from its beginning or from a checkpoint on, holds all that its node held at that write,
-/// whatever else was done, and in whatever order.
+/// What a node holds has all that it held before; and where it has all that was held somewhere, it
+/// knows the samples that were known there. So whoever took each cell of a journal up to some write,
+/// from its beginning or from a checkpoint on, holds all that its node held at that write, whatever
+/// else was done, and in whatever order.
 pub fn journals_bring_all()
     ensures add { NodesOnlyAdd }
+    ensures known { HoldersKnowAll }
     ensures taken { TakenAreHeld }
     ensures all { JournalsBringAll }
     ensures checkpoints { CheckpointedBringAll }

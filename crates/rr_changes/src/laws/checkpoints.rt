@@ -1,5 +1,5 @@
 //! Checkpoints that are read while a node goes on.
-ghost use Rattle.rr_changes.specs.CheckpointLaws.{CheckpointsBringAll, CheckpointsBringWhatWasHeld, CheckpointsMakeTheLast, WalksBringAll, WalksBringWhatWasHeld, WalksMakeTheLast};
+ghost use Rattle.rr_changes.specs.CheckpointLaws.{CheckpointsBringAll, CheckpointsBringWhatWasHeld, CheckpointsMakeTheLast, WalksBringAll, WalksBringWhatWasHeld, WalksMakeTheLast, ReadsAreAWalk};
 
 /// A checkpoint, each of whose keys was read at a moment of its own, joined with all that was
 /// written since its first moment, makes the cells of the last write, in any order and any number of
@@ -11,10 +11,11 @@ pub fn checkpoints_make_the_last()
     ensures last { CheckpointsMakeTheLast }
 {}
 
-/// So does a checkpoint that was read in order, so many cells at a time, also less than a key has,
-/// each batch at a moment of its own.
+/// So does a checkpoint that was read in order, so many cells at a time, also fewer than a key has,
+/// each batch at a moment of its own, until fewer cells came.
 pub fn walks_make_the_last()
     ensures all { WalksBringAll }
     ensures held { WalksBringWhatWasHeld }
     ensures last { WalksMakeTheLast }
+    ensures reads { ReadsAreAWalk }
 {}

@@ -1,0 +1,172 @@
+#!/usr/bin/env python3
+"""Writes the journal of a node that takes made-up samples, by the model of docs/FORMATS.md (journal_model.py).
+
+usage: journal_life.py DIR [SEED [SAMPLES]]     the files of a journal of so many samples, 1,000 if missing
+"""
+
+import pathlib
+import random
+import struct
+import sys
+
+from journal_model import CELLS, CURSOR_KIND, FIRST, ORIGIN, START_DIGEST, Cursor, Record
+from journal_model import cells_body, digest, file_name, header_bytes, is_live, link, undigested
+from packed_model import BILLION, Archive, Cell, Schema
+
+class Node:
+    """What a replica holds, and the names of what changed since its journal was last written."""
+
+    def __init__(self, schema, origin):
+        self.schema = schema
+        self.origin = origin
+        self.next = 1
+        self.cells = {}
+        self.newest = {}
+        self.changed = set()
+
+    def begin(self, origin):
+        """Goes on under an origin that wasn't used."""
+        self.origin = origin
+        self.next = 1
+
+    def put(self, key, time, value):
+        for archive in range(len(self.schema.archives)):
+            slot = self.schema.slot(archive, time)
+            mask = 1 << self.schema.place(archive, time)
+            cell = self.cells.get((key, archive, slot, self.origin))
+            if cell is None:
+                cell = Cell(key, archive, slot, self.origin, self.next, 1, value, value, value, time, value, mask)
+            else:
+                cell = with_sample(cell, mask, self.next, time, value)
+            self.join(cell)
+        self.next += 1
+
+    def join(self, cell):
+        there = self.cells.get(cell.name())
+        if there is not None and cell.contribution() <= there.contribution():
+            return
+        run = cell.key, cell.archive
+        self.newest[run] = max(self.newest.get(run, cell.slot), cell.slot)
+        self.cells[cell.name()] = cell
+        self.changed.add(cell.name())
+        for name in [name for name, cell in self.cells.items() if not is_live(self.schema, self.newest, cell)]:
+            del self.cells[name]
+
+    def changes(self):
+        """The cells that changed and are live still, by key and archive; from here on none has changed."""
+        groups = {}
+        for name in sorted(self.changed & self.cells.keys()):
+            groups.setdefault(name[:2], []).append(self.cells[name])
+        self.changed = set()
+        return groups
+
+
+def with_sample(cell, mask, number, time, value):
+    """A cell with a sample more, which counts as the last one unless a later one was there."""
+    return cell._replace(
+        version=number,
+        count=cell.count + 1,
+        sum=cell.sum + value,
+        min=min(cell.min, value),
+        max=max(cell.max, value),
+        last_time=max(cell.last_time, time),
+        last_value=value if time >= cell.last_time else cell.last_value,
+        mask=cell.mask | mask,
+    )
+
+
+# ---- its life
+
+SCHEMA = Schema(60, (Archive(1, 30, 0, 1), Archive(5, 12, 1, 2), Archive(128, 3, 1, 2)))
+KEYS = [
+    b"cpu value",
+    b"disk,host=a,path=/ free",
+    b"disk,host=b,path=/ free",
+    b"m\\ eter,no=7 a\\,b",
+    b'room,say="hi" t',
+]
+ID = bytes(range(16))
+PEER_ID = bytes(range(255, 239, -1))
+
+# How many samples are taken at most between two writes, and how many groups a record has at most.
+MOST_AT_ONCE = 20
+MOST_GROUPS = 8
+
+
+def taken(rng, node, peers):
+    """Lets the node take a sample, or a cell of a peer that takes samples too; says whether it was a cell."""
+    peer = rng.choice(peers)
+    for one in (node, peer):
+        hour = BILLION * 3_600
+        time = 500_000 * hour + rng.randrange(hour * 3) - (rng.random() < 0.1) * hour * 4
+        one.put(rng.choice(KEYS), time, rng.choice((0, 1, rng.randrange(-5_000, 5_000), rng.getrandbits(63))))
+    if rng.random() < 0.4:
+        node.join(rng.choice(list(peer.cells.values())))
+        return True
+    return False
+
+
+def batches(seed, samples):
+    """The records of a node's life, in which it takes so many samples, a batch for each write."""
+    rng = random.Random(seed)
+    node = Node(SCHEMA, 1_001)
+    peers = [Node(SCHEMA, 2_001), Node(SCHEMA, 2_002), Node(SCHEMA, 65_535)]
+    records = [Record(ORIGIN, struct.pack(">H", node.origin))]
+    left = samples
+    while left > 0:
+        if rng.random() < 0.05:
+            node.begin(node.origin + 1)
+            records.append(Record(ORIGIN, struct.pack(">H", node.origin)))
+        count = min(left, rng.randrange(1, MOST_AT_ONCE + 1))
+        left -= count
+        pulled = [taken(rng, node, peers) for _ in range(count)]
+        groups = list(node.changes().items())
+        for at in range(0, len(groups), MOST_GROUPS):
+            records.append(Record(CELLS, cells_body(groups[at : at + MOST_GROUPS], SCHEMA)))
+        if any(pulled):
+            records.append(Record(CURSOR_KIND, Cursor(PEER_ID, 4_096 + left, digest(b"%d" % left)).bytes()))
+        yield records
+        records = []
+
+
+def appended(cursor, records):
+    """The bytes of a batch behind a place, and the place behind it."""
+    text = bytearray()
+    for number, record in enumerate(records):
+        record = record._replace(kind=record.kind + (FIRST if number == 0 else 0))
+        text += undigested(record) + link(cursor.digest, record)
+        cursor = cursor.behind(record)
+    return bytes(text), cursor
+
+
+def journal(seed, samples):
+    """The files of a journal by their names: the second begins where the first has half of the batches."""
+    cursor = Cursor(ID, 0, START_DIGEST)
+    files = {}
+    life = list(batches(seed, samples))
+    for number, records in enumerate(life):
+        if number in (0, len(life) // 2):
+            name = file_name(cursor.offset)
+            files[name] = header_bytes(SCHEMA, cursor)
+        text, cursor = appended(cursor, records)
+        files[name] += text
+    return files
+
+
+def numbers(words):
+    """The seed, and how many samples there are."""
+    given = [int(word) for word in words]
+    return (*given, *(1, 1_000)[len(given) :])
+
+
+def main():
+    if not 2 <= len(sys.argv) <= 4:
+        sys.exit(__doc__)
+    folder = pathlib.Path(sys.argv[1])
+    folder.mkdir(parents=True, exist_ok=True)
+    for name, data in journal(*numbers(sys.argv[2:])).items():
+        (folder / name).write_bytes(data)
+
+
+if __name__ == "__main__":
+    main()
