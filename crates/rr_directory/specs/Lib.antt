@@ -5,3 +5,5 @@ pub mod Memory
 pub mod Reading
 pub mod Opening
 pub mod Recovering
+pub mod Origins
+pub mod Report

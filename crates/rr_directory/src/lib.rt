@@ -22,13 +22,17 @@ mod fault;
 mod file;
 mod memory;
 mod name;
+mod origins;
 mod place;
 mod recovered;
+mod report;
 mod start;
 
 pub use directory::{Directory, DirectoryFault};
 pub use fault::{FileFault, Refusal};
 pub use memory::{MemoryDirectory, MemoryFile};
 pub use name::FileName;
+pub use origins::last_origin;
 pub use recovered::{Recovered, recover};
+pub use report::{FileEnding, FileReport, push_report, push_verdict};
 pub use start::{Start, start_of};
