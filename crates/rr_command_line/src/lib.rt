@@ -5,7 +5,7 @@
 //! ├── sim [FILE]
 //! ├── check-lines [--precision P] [--now T]
 //! ├── serve CONFIG --origin N [--load FILE] [--save FILE]
-//! └── journal check|cells DIR
+//! └── journal WHAT DIR
 //! ```
 //!
 //! [`program`] builds it. In `specs/` its rules are what `clap` reads words by (`Program.antt`);

@@ -75,11 +75,7 @@ fn bare_serve<'a>(alloc: Global) -> Result<Command<'a>, AllocError>
 {
     Command::new(alloc, "serve")
         .about("Serves as a node: takes lines, answers fetches and pulls from peers")
-        .arg(needed(
-            alloc,
-            "CONFIG",
-            "The configuration of the node, in TOML",
-        ))?
+        .arg(needed(alloc, "CONFIG", "The configuration of the node, in TOML"))?
         .arg(origin_arg(alloc))
 }
 

@@ -7,3 +7,5 @@ pub mod Opening
 pub mod Recovering
 pub mod Origins
 pub mod Report
+pub mod Survey
+pub mod Cells

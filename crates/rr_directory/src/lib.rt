@@ -16,6 +16,7 @@
 //! (`Reading.antt`).
 #![tactic(auto)]
 
+mod cells;
 mod directory;
 mod ending;
 mod fault;
@@ -26,8 +27,11 @@ mod origins;
 mod place;
 mod recovered;
 mod report;
+mod schema;
 mod start;
+mod surveying;
 
+pub use cells::push_cell;
 pub use directory::{Directory, DirectoryFault};
 pub use fault::{FileFault, Refusal};
 pub use memory::{MemoryDirectory, MemoryFile};
@@ -35,4 +39,6 @@ pub use name::FileName;
 pub use origins::last_origin;
 pub use recovered::{Recovered, recover};
 pub use report::{FileEnding, FileReport, push_report, push_verdict};
+pub use schema::{schema_in, schema_of};
 pub use start::{Start, start_of};
+pub use surveying::survey;

@@ -70,11 +70,7 @@ fn push_ending(text: &mut Vec<u8>, ending: &FileEnding) -> Result<(), AllocError
 }
 
 /// Adds the line of a file: its name, how many records and cells it has, and how it ends.
-pub fn push_report(
-    alloc: Global,
-    text: &mut Vec<u8>,
-    report: &FileReport,
-) -> Result<(), AllocError>
+pub fn push_report(alloc: Global, text: &mut Vec<u8>, report: &FileReport) -> Result<(), AllocError>
     ensures { OnOk result (text.new.items ≡ text.old.items ++ report_text report.now) }
 {
     let name = report.name.bytes(alloc)?;

@@ -3,7 +3,7 @@
 
 ghost use Rattle.std.specs.Prelude.{◌≡◌, ℕ, List, [], ◌∷◌, ◌++◌, pos, negsuc, codes, None, Some};
 ghost use Rattle.rr_line.specs.declared.precision.Precision.TheVariants.{Ns, Us, Ms, S};
-ghost use Rattle.rr_words.specs.Words.{AskFor, AskForNothing, asked_at, check_lines, journal, lines_asked_by, serve, serve_asked_by, sim}
+ghost use Rattle.rr_words.specs.Words.{AskFor, AskForNothing, asked_at, check_lines, journal, lines_asked_by, serve, serve_asked_by, sim};
 ghost use Rattle.rr_words.specs.declared.order.JournalWord.TheVariants.{Check, Cells};
 
 /// The options of `check-lines` take any text as their value, in either order; what they ask for is
