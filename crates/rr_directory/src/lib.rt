@@ -37,7 +37,7 @@ pub use fault::{FileFault, Refusal};
 pub use memory::{MemoryDirectory, MemoryFile};
 pub use name::FileName;
 pub use origins::last_origin;
-pub use recovered::{Recovered, recover};
+pub use recovered::{Recovered, empty_replica, recover};
 pub use report::{FileEnding, FileReport, push_report, push_verdict};
 pub use schema::{schema_in, schema_of};
 pub use start::{Start, start_of};
