@@ -15,9 +15,9 @@ abbrev pub check_lines_app : App
 check_lines_app = with_rule (with_rule (new_app (codes "check-lines")) (option_rule (codes "precision")))
     (option_rule (codes "now"))
 
--- CONFIG
-abbrev pub config_rule : Rule
-config_rule = record (new_rule (codes "CONFIG")) { required = true }
+-- NAME, which has to be there
+abbrev pub needed_rule : Text → Rule
+needed_rule name = record (new_rule name) { required = true }
 
 -- --origin N
 abbrev pub origin_rule : Rule
@@ -25,11 +25,15 @@ origin_rule = record (option_rule (codes "origin")) { required = true }
 
 -- serve CONFIG --origin N
 abbrev pub bare_serve_app : App
-bare_serve_app = with_rule (with_rule (new_app (codes "serve")) config_rule) origin_rule
+bare_serve_app = with_rule (with_rule (new_app (codes "serve")) (needed_rule (codes "CONFIG"))) origin_rule
 
 -- serve CONFIG --origin N [--load FILE] [--save FILE]
 abbrev pub serve_app : App
 serve_app = with_rule (with_rule bare_serve_app (option_rule (codes "load"))) (option_rule (codes "save"))
+
+-- journal WHAT DIR
+abbrev pub journal_app : App
+journal_app = with_rule (with_rule (new_app (codes "journal")) (needed_rule (codes "WHAT"))) (needed_rule (codes "DIR"))
 
 -- the words are those after the program's name, and it has a version to tell
 abbrev pub bare_app : App
@@ -43,5 +47,9 @@ script_command_app = with_subcommand bare_app sim_app.top
 abbrev pub stream_commands_app : App
 stream_commands_app = with_subcommand script_command_app check_lines_app.top
 
+-- and the one that serves as a node
+abbrev pub node_commands_app : App
+node_commands_app = with_subcommand stream_commands_app serve_app.top
+
 abbrev pub program_app : App
-program_app = with_subcommand stream_commands_app serve_app.top
+program_app = with_subcommand node_commands_app journal_app.top

@@ -4,7 +4,8 @@
 //! rr
 //! ├── sim [FILE]
 //! ├── check-lines [--precision P] [--now T]
-//! └── serve CONFIG --origin N [--load FILE] [--save FILE]
+//! ├── serve CONFIG --origin N [--load FILE] [--save FILE]
+//! └── journal WHAT DIR
 //! ```
 //!
 //! [`program`] builds it. In `specs/` its rules are what `clap` reads words by (`Program.antt`);

@@ -3,7 +3,7 @@
 ghost use Rattle.std.specs.Prelude.{◌≡◌, IfOk};
 ghost use Rattle.clap.specs.Words.{app_of};
 ghost use Rattle.rr_command_line.specs.Building.{IsArg, IsCommand};
-ghost use Rattle.rr_command_line.specs.Program.{sim_app, option_rule, check_lines_app, config_rule, origin_rule, bare_serve_app, serve_app, bare_app, script_command_app, stream_commands_app, program_app};
+ghost use Rattle.rr_command_line.specs.Program.{sim_app, option_rule, check_lines_app, needed_rule, origin_rule, bare_serve_app, serve_app, journal_app, bare_app, script_command_app, stream_commands_app, node_commands_app, program_app};
 
 use crate::version::VERSION;
 use clap::{Arg, Command};
@@ -49,13 +49,11 @@ fn check_lines<'a>(alloc: Global) -> Result<Command<'a>, AllocError>
         ))
 }
 
-/// `CONFIG`.
-fn config_arg<'a>(alloc: Global) -> Arg<'a>
-    ensures { IsArg result config_rule }
+/// `NAME`, which has to be there.
+fn needed<'a>(alloc: Global, name: &'a str, help: &'a str) -> Arg<'a>
+    ensures { IsArg result (needed_rule name.entry.now) }
 {
-    Arg::new(alloc, "CONFIG")
-        .required(true)
-        .help("The configuration of the node, in TOML")
+    Arg::new(alloc, name).required(true).help(help)
 }
 
 /// `--origin N`.
@@ -77,7 +75,7 @@ fn bare_serve<'a>(alloc: Global) -> Result<Command<'a>, AllocError>
 {
     Command::new(alloc, "serve")
         .about("Serves as a node: takes lines, answers fetches and pulls from peers")
-        .arg(config_arg(alloc))?
+        .arg(needed(alloc, "CONFIG", "The configuration of the node, in TOML"))?
         .arg(origin_arg(alloc))
 }
 
@@ -93,6 +91,20 @@ fn serve<'a>(alloc: Global) -> Result<Command<'a>, AllocError>
             "FILE",
             "The file that a snapshot is saved to after each line connection",
         ))
+}
+
+/// `journal WHAT DIR`.
+fn journal<'a>(alloc: Global) -> Result<Command<'a>, AllocError>
+    ensures { IfOk result (IsCommand journal_app) }
+{
+    Command::new(alloc, "journal")
+        .about("Reads the data directory of a node that isn't running")
+        .arg(needed(
+            alloc,
+            "WHAT",
+            "check, whether a node would start from it, or cells, to print what it would hold",
+        ))?
+        .arg(needed(alloc, "DIR", "The directory"))
 }
 
 /// The program without subcommands; its words are those after its name.
@@ -121,9 +133,16 @@ fn stream_commands<'a>(alloc: Global) -> Result<Command<'a>, AllocError>
     script_command(alloc)?.subcommand(check_lines(alloc)?)
 }
 
+/// The program with these and the subcommand that serves as a node.
+fn node_commands<'a>(alloc: Global) -> Result<Command<'a>, AllocError>
+    ensures { IfOk result (λ c. app_of c ≡ node_commands_app) }
+{
+    stream_commands(alloc)?.subcommand(serve(alloc)?)
+}
+
 /// The program and its subcommands. Refused where memory runs out.
 pub fn program<'a>(alloc: Global) -> Result<Command<'a>, AllocError>
     ensures { IfOk result (λ c. app_of c ≡ program_app) }
 {
-    stream_commands(alloc)?.subcommand(serve(alloc)?)
+    node_commands(alloc)?.subcommand(journal(alloc)?)
 }

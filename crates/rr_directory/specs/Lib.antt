@@ -5,3 +5,7 @@ pub mod Memory
 pub mod Reading
 pub mod Opening
 pub mod Recovering
+pub mod Origins
+pub mod Report
+pub mod Survey
+pub mod Cells

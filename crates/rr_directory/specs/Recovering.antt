@@ -1,6 +1,8 @@
 -- What calls that read files did.
 use Rattle.std.specs.Prelude.{◌≡◌, ◌⊎◌, ℕ, List, None, Some, Result, Ok, Err}
+use Rattle.std.specs.FinMap.{empty}
 use Rattle.rr_cells.specs.ReplicaState.{ReplicaState}
+use Rattle.rr_schema.specs.Schema.{Layout}
 use Rattle.rr_journal.specs.declared.cursor.Cursor.{Cursor}
 use Rattle.rr_journal.specs.declared.step.Stop.{Stop}
 use Rattle.rr_journal.specs.Cursor.{behind_all}
@@ -16,6 +18,10 @@ use Rattle.rr_directory.specs.Reading.{IsFileFault, Reached, as_file}
 
 abbrev pub reached : ReplicaWithRoom → Recovered → Reached
 reached replica r = record { place = r.end; recovery = recovery replica r.found; torn = r.torn }
+
+-- a replica that holds nothing
+abbrev pub empty_state : Layout → ℕ → ReplicaState
+empty_state s origin = record { schema = s; origin = origin; next = 1; cells = empty }
 
 -- before the first file
 abbrev pub first_reached : ReplicaState → Reached

@@ -1,7 +1,8 @@
 //! What is asked of a directory.
+ghost use Rattle.std.specs.Prelude.{◌≡◌};
 
 use crate::name::FileName;
-use std::alloc::Global;
+use std::alloc::{AllocError, AllocFailed, Global};
 use std::io::Read;
 use thiserror::Error;
 
@@ -14,6 +15,26 @@ pub enum DirectoryFault {
     /// Memory ran out.
     #[error("out of memory")]
     Memory,
+}
+
+impl From<AllocError> for DirectoryFault {
+    ghost use Rattle.rr_directory.specs.declared.directory.DirectoryFault.TheVariants.{Memory};
+
+    ghost from_gives = { λ _ e. e ≡ Memory };
+
+    fn from(_e: AllocError) -> DirectoryFault {
+        DirectoryFault::Memory
+    }
+}
+
+impl<T: Drop> From<AllocFailed<T>> for DirectoryFault {
+    ghost use Rattle.rr_directory.specs.declared.directory.DirectoryFault.TheVariants.{Memory};
+
+    ghost from_gives = { λ _ e. e ≡ Memory };
+
+    fn from(_e: AllocFailed<T>) -> DirectoryFault {
+        DirectoryFault::Memory
+    }
 }
 
 /// A directory with the files of a node, which is read.

@@ -4,8 +4,10 @@ ghost use Rattle.std.specs.Prelude.{◌≡◌};
 
 use crate::directory::DirectoryFault;
 use crate::name::FileName;
+use rr_io::stream::ReadFailed;
 use rr_journal::JournalFault;
 use rr_recovery::RecoveryFault;
+use std::alloc::{AllocError, AllocFailed};
 use std::fmt;
 use thiserror::Error;
 
@@ -100,6 +102,36 @@ impl From<DirectoryFault> for FileFault {
             DirectoryFault::ReadFailed => FileFault::ReadFailed,
             DirectoryFault::Memory => FileFault::Memory,
         }
+    }
+}
+
+impl From<ReadFailed> for FileFault {
+    ghost use Rattle.rr_directory.specs.declared.fault.FileFault.TheVariants.{ReadFailed};
+
+    ghost from_gives = { λ _ e. e ≡ ReadFailed };
+
+    fn from(_e: ReadFailed) -> FileFault {
+        FileFault::ReadFailed
+    }
+}
+
+impl From<AllocError> for FileFault {
+    ghost use Rattle.rr_directory.specs.declared.fault.FileFault.TheVariants.{Memory};
+
+    ghost from_gives = { λ _ e. e ≡ Memory };
+
+    fn from(_e: AllocError) -> FileFault {
+        FileFault::Memory
+    }
+}
+
+impl<T: Drop> From<AllocFailed<T>> for FileFault {
+    ghost use Rattle.rr_directory.specs.declared.fault.FileFault.TheVariants.{Memory};
+
+    ghost from_gives = { λ _ e. e ≡ Memory };
+
+    fn from(_e: AllocFailed<T>) -> FileFault {
+        FileFault::Memory
     }
 }
 

@@ -12,23 +12,38 @@
 //!                                        └── each: header ─> place ─> records ─> end
 //! ```
 //!
+//! Before that, [`last_origin`] goes through the same files, so that a node can choose an origin that
+//! was never used. For an operator [`survey`] reads a file by itself, under the schema that
+//! [`schema_in`] finds in a header; [`push_report`], [`push_verdict`] and [`push_cell`] say in a line
+//! each what a file has, whether the files join, and a cell.
+//!
 //! In `specs/` what files make of a replica is a function of their bytes, file after file
 //! (`Reading.antt`).
 #![tactic(auto)]
 
+mod cells;
 mod directory;
 mod ending;
 mod fault;
 mod file;
 mod memory;
 mod name;
+mod origins;
 mod place;
 mod recovered;
+mod report;
+mod schema;
 mod start;
+mod surveying;
 
+pub use cells::push_cell;
 pub use directory::{Directory, DirectoryFault};
 pub use fault::{FileFault, Refusal};
 pub use memory::{MemoryDirectory, MemoryFile};
 pub use name::FileName;
-pub use recovered::{Recovered, recover};
+pub use origins::last_origin;
+pub use recovered::{Recovered, empty_replica, recover};
+pub use report::{FileEnding, FileReport, push_report, push_verdict};
+pub use schema::{schema_in, schema_of};
 pub use start::{Start, start_of};
+pub use surveying::survey;

@@ -1,8 +1,8 @@
 //! A replica from the files of a directory.
-ghost use Rattle.std.specs.Prelude.{◌≡◌, IfSome};
+ghost use Rattle.std.specs.Prelude.{◌≡◌, IfOk, IfSome};
 ghost use Rattle.rr_replica.specs.ReplicaWithRoom.{replica_state};
 ghost use Rattle.rr_directory.specs.Reading.{after_files};
-ghost use Rattle.rr_directory.specs.Recovering.{IsNothing, Recovers, first_reached};
+ghost use Rattle.rr_directory.specs.Recovering.{IsNothing, Recovers, empty_state, first_reached};
 
 use crate::directory::Directory;
 use crate::fault::Refusal;
@@ -12,8 +12,8 @@ use rr_archive::Cells;
 use rr_journal::Cursor;
 use rr_recovery::Found;
 use rr_replica::Replica;
-use rr_schema::Schema;
-use std::alloc::Global;
+use rr_schema::{Origin, Schema};
+use std::alloc::{AllocError, Global};
 
 /// What was read of the files of a directory, besides the cells.
 #[derive(Debug, Drop)]
@@ -37,6 +37,18 @@ impl Recovered {
             torn: 0,
         }
     }
+}
+
+/// An empty replica of an origin, into which files can be read that name this schema.
+pub fn empty_replica<A: Cells>(
+    alloc: Global,
+    schema: &Schema,
+    origin: Origin,
+) -> Result<Replica<A>, AllocError>
+    ensures empty { IfOk result (λ r. replica_state r ≡ empty_state schema.now origin) }
+    ensures schema { IfOk result (λ r. r.schema ≡ schema.now) }
+{
+    Replica::new(alloc, schema, origin)
 }
 
 /// Reads files, in this order, into a replica: a checkpoint, if there is one, and then the journal's

@@ -35,6 +35,6 @@ mod words;
 pub use answering::{answer, answer_text};
 pub use consolidation::consolidate;
 pub use fault::{AnswerFault, RequestFault};
-pub use plain::push_plain;
+pub use plain::{prefix_of, push_plain};
 pub use request::{Request, parse_request, read_request};
 pub use words::{RequestWords, request_words};

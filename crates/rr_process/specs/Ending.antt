@@ -19,6 +19,7 @@ of_words_fault words.Memory = ending.Failed fault.Memory
 abbrev pub status_of : Ending → ℕ
 status_of ending.Done = 0
 status_of ending.LinesRefused = 1
+status_of ending.DirectoryRefused = 1
 status_of (ending.WordsRefused text) = 2
 status_of (ending.ConfigRefused name) = 2
 status_of (ending.LoadRefused name) = 2

@@ -13,6 +13,8 @@ pub enum Ending {
     Done,
     /// The order is obeyed, and lines were refused.
     LinesRefused,
+    /// A node wouldn't start from the directory.
+    DirectoryRefused,
     /// The command line is refused; with the text for standard error.
     WordsRefused(String),
     /// The configuration of a node is refused; with the name of its fault.
@@ -45,7 +47,7 @@ impl Ending {
     {
         match self {
             Ending::Done => 0,
-            Ending::LinesRefused => 1,
+            Ending::LinesRefused | Ending::DirectoryRefused => 1,
             Ending::WordsRefused(_) | Ending::ConfigRefused(_) | Ending::LoadRefused(_) => 2,
             Ending::BadAddress | Ending::Failed(_) => 3,
         }
@@ -54,7 +56,7 @@ impl Ending {
     /// Prints on standard error why the order isn't obeyed; nothing where it is.
     pub fn print(&self, rt: &impl Eprint) -> io::Result<()> {
         match self {
-            Ending::Done | Ending::LinesRefused => Ok(()),
+            Ending::Done | Ending::LinesRefused | Ending::DirectoryRefused => Ok(()),
             Ending::WordsRefused(text) => rt.eprint(text),
             Ending::ConfigRefused(name) => eprintln!(rt; "config: {name}"),
             Ending::LoadRefused(name) => eprintln!(rt; "load: {name}"),

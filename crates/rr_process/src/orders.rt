@@ -17,8 +17,8 @@ use std::alloc::Global;
 use std::io::{Read, Write};
 
 /// Obeys an order over two streams: its script or its lines are what `input` still has, and what
-/// they print is written to `output`. An order to serve has no such streams: nothing is read or
-/// written.
+/// they print is written to `output`. An order to serve, or to read a directory, has no such streams:
+/// nothing is read or written.
 ///
 /// What is written is a prefix of that wherever a run ends.
 pub fn obey_order<R: Read, W: Write>(
@@ -41,6 +41,6 @@ pub fn obey_order<R: Read, W: Write>(
             let refused = check_lines(alloc, input, output, *precision, *now)?;
             Ok(Ending::of_lines(refused))
         }
-        Order::Serve { .. } => Ok(Ending::Done),
+        Order::Serve { .. } | Order::Journal { .. } => Ok(Ending::Done),
     }
 }

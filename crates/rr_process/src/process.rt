@@ -50,8 +50,8 @@ pub fn obey(rt: &(impl AllocGlobal + Files + Input + Print + Eprint), order: &Or
     }
 }
 
-/// Obeys the order of the process's own words, if it has streams, and says how that ended. An order
-/// to serve has none, and nothing is done.
+/// Obeys the order of the process's own words, if it has streams, and says how that ended. Any
+/// other order has none, and nothing is done.
 pub fn run(rt: &(impl AllocGlobal + Env + Files + Input + Print + Eprint)) -> Ending {
     match read_order(rt) {
         Ok(order) => obey(rt, &order),

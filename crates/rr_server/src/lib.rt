@@ -2,6 +2,7 @@
 //!
 //! ```text
 //! words ── run ──┬── obey ───> a script run, or lines checked, over two streams
+//!                ├── read_directory ─> what the files of a node have
 //!                └── Server ─> a configuration, a snapshot to begin with, listeners, and a node at work
 //! ```
 //!
@@ -21,6 +22,7 @@ mod clock;
 mod files;
 mod front;
 mod greeting;
+mod journal;
 mod listeners;
 mod places;
 mod plain;

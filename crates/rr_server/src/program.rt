@@ -1,5 +1,6 @@
 //! The order of a process's words, obeyed.
 
+use crate::journal::read_directory;
 use crate::server::Server;
 use rr_process::{Ending, obey, read_order};
 use rr_words::Order;
@@ -42,17 +43,18 @@ where
         Ok(order) => order,
         Err(fault) => return Ending::from(fault),
     };
-    let Order::Serve {
-        config,
-        origin,
-        load,
-        save,
-    } = &order
-    else {
-        return obey(rt, &order);
+    let (config, origin, load, save) = match &order {
+        Order::Serve {
+            config,
+            origin,
+            load,
+            save,
+        } => (config, *origin, load, save),
+        Order::Journal { what, folder } => return read_directory(rt, *what, folder.as_str()),
+        _ => return obey(rt, &order),
     };
     let served = match Server::new(rt, config.as_str(), lent(save)) {
-        Ok(server) => server.serve(*origin, lent(load)),
+        Ok(server) => server.serve(origin, lent(load)),
         Err(ending) => Err(ending),
     };
     match served {

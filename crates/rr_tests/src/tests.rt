@@ -4,6 +4,7 @@ mod changes;
 mod clocks;
 mod cut;
 mod desk;
+mod directory;
 mod faults;
 mod fetches;
 mod file_shelf;

@@ -11,6 +11,8 @@ use Rattle.rr_line.specs.declared.precision.Precision.TheVariants.{Ns}
 use Rattle.rr_line.specs.Precision.{precision_named}
 use Rattle.rr_words.specs.declared.order.Order.{Order}
 use Rattle.rr_words.specs.declared.order.Order.TheVariants as order
+use Rattle.rr_words.specs.declared.order.JournalWord.{JournalWord}
+use Rattle.rr_words.specs.declared.order.JournalWord.TheVariants.{Check, Cells}
 use Rattle.rr_command_line.specs.Program.{program_app}
 
 -- an order, with its texts as bytes
@@ -18,12 +20,14 @@ pub data Asked : Type 0 where
   sim : Option Text → Asked
   check_lines : Precision → ℤ → Asked
   serve : Text → ℕ → Option Text → Option Text → Asked
+  journal : JournalWord → Text → Asked
 
 abbrev pub asked_by : Order → Asked
 asked_by (order.Sim file) = sim (option_map string_bytes file)
 asked_by (order.CheckLines precision now) = check_lines precision now
 asked_by (order.Serve config origin load save) =
     serve (string_bytes config) origin (option_map string_bytes load) (option_map string_bytes save)
+asked_by (order.Journal what folder) = journal what (string_bytes folder)
 
 -- ns, us, ms or s; nanoseconds if none is written
 abbrev pub precision_at : Option Text → Option Precision
@@ -64,13 +68,30 @@ serve_asked rows =
     serve_asked_by (first_of (codes "CONFIG") rows) (first_of (codes "origin") rows)
     (first_of (codes "load") rows) (first_of (codes "save") rows)
 
+-- check, or cells
+abbrev pub journal_word_at : Text → Option JournalWord
+journal_word_at text =
+    if bytes_eq text (codes "check") then Some Check else (if bytes_eq text (codes "cells") then Some Cells else None)
+
+abbrev pub journal_word_in : Option Text → Option JournalWord
+journal_word_in = option_and_then journal_word_at
+
+-- what `journal` asks for by its two texts
+abbrev pub journal_asked_by : Option Text → Option Text → Option Asked
+journal_asked_by what folder = option_and_then (λ w. option_map (journal w) folder) (journal_word_in what)
+
+-- what the values of `journal` ask for
+abbrev pub journal_asked : List Row → Option Asked
+journal_asked rows = journal_asked_by (first_of (codes "WHAT") rows) (first_of (codes "DIR") rows)
+
 -- what a subcommand and its values ask for, or no subcommand
 abbrev pub asked_of : Option (Text × List Row) → Option Asked
 asked_of None = Some (sim None)
 asked_of (Some met) =
     if bytes_eq met.0 (codes "sim") then Some (sim (first_of (codes "FILE") met.1))
     else (if bytes_eq met.0 (codes "check-lines") then lines_asked met.1
-    else (if bytes_eq met.0 (codes "serve") then serve_asked met.1 else None))
+    else (if bytes_eq met.0 (codes "serve") then serve_asked met.1
+    else (if bytes_eq met.0 (codes "journal") then journal_asked met.1 else None)))
 
 -- what words ask for that clap finds no fault in
 abbrev pub asked_at : List Text → Option Asked

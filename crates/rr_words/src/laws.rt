@@ -3,7 +3,8 @@
 
 ghost use Rattle.std.specs.Prelude.{◌≡◌, ℕ, List, [], ◌∷◌, ◌++◌, pos, negsuc, codes, None, Some};
 ghost use Rattle.rr_line.specs.declared.precision.Precision.TheVariants.{Ns, Us, Ms, S};
-ghost use Rattle.rr_words.specs.Words.{AskFor, AskForNothing, asked_at, check_lines, lines_asked_by, serve, serve_asked_by, sim};
+ghost use Rattle.rr_words.specs.Words.{AskFor, AskForNothing, asked_at, check_lines, journal, lines_asked_by, serve, serve_asked_by, sim};
+ghost use Rattle.rr_words.specs.declared.order.JournalWord.TheVariants.{Check, Cells};
 
 /// The options of `check-lines` take any text as their value, in either order; what they ask for is
 /// then up to these texts. A script's file may have any name, and so may the files of `serve`.
@@ -45,6 +46,10 @@ pub fn command_lines_are_read()
         (serve (codes "c") 7 None None) }
     ensures serve_from_a_snapshot { AskFor (codes "serve" ∷ codes "--origin=65535" ∷ codes "--load" ∷ codes "l" ∷ codes "c" ∷ [])
         (serve (codes "c") 65535 (Some (codes "l")) None) }
+    ensures journal_check { AskFor (codes "journal" ∷ codes "check" ∷ codes "d" ∷ [])
+        (journal Check (codes "d")) }
+    ensures journal_cells { AskFor (codes "journal" ∷ codes "cells" ∷ codes "d" ∷ [])
+        (journal Cells (codes "d")) }
 
     // A word that begins with a dash is no value, and a number has no plus.
     ensures dashed_word { AskForNothing (codes "check-lines" ∷ codes "--now" ∷ codes "-5" ∷ []) }
@@ -56,6 +61,8 @@ pub fn command_lines_are_read()
     ensures origin_0 { AskForNothing (codes "serve" ∷ codes "c" ∷ codes "--origin" ∷ codes "0" ∷ []) }
     ensures past_origins { AskForNothing (codes "serve" ∷ codes "c" ∷ codes "--origin=65536" ∷ []) }
     ensures no_configuration { AskForNothing (codes "serve" ∷ codes "--origin" ∷ codes "7" ∷ []) }
+    ensures journal_of_nothing { AskForNothing (codes "journal" ∷ codes "check" ∷ []) }
+    ensures other_journal_word { AskForNothing (codes "journal" ∷ codes "frob" ∷ codes "d" ∷ []) }
     ensures other_word { AskForNothing (codes "frob" ∷ []) }
     ensures help { AskForNothing (codes "--help" ∷ []) }
     ensures version { AskForNothing (codes "--version" ∷ []) }

@@ -4,6 +4,7 @@
 //! none, sim [FILE]                                        Order::Sim
 //! check-lines [--precision P] [--now T]                   Order::CheckLines
 //! serve CONFIG --origin N [--load FILE] [--save FILE]     Order::Serve
+//! journal check|cells DIR                                 Order::Journal
 //! ```
 //!
 //! [`read_words`] makes an [`Order`] of words, or a [`WordsFault`] with the text for whoever wrote
@@ -19,5 +20,5 @@ mod values;
 mod words;
 
 pub use fault::WordsFault;
-pub use order::Order;
+pub use order::{JournalWord, Order};
 pub use words::{not_text, read_words};

@@ -3,6 +3,15 @@
 use rr_line::Precision;
 use rr_schema::Origin;
 
+/// What of a data directory is asked for.
+#[derive(Clone, Copy, Debug, PartialEq, Eq)]
+pub enum JournalWord {
+    /// Whether a node would start from it.
+    Check,
+    /// The cells that a node would then hold.
+    Cells,
+}
+
 /// What the words of a command line ask for.
 #[derive(Drop)]
 pub enum Order {
@@ -28,5 +37,12 @@ pub enum Order {
         load: Option<String>,
         /// The file that a snapshot is saved to.
         save: Option<String>,
+    },
+    /// To read the data directory of a node.
+    Journal {
+        /// What of it.
+        what: JournalWord,
+        /// The directory.
+        folder: String,
     },
 }

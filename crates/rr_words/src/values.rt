@@ -2,8 +2,9 @@
 
 ghost use Rattle.std.specs.Prelude.{◌≡◌, IfOk, option_map, string_bytes};
 ghost use Rattle.clap.specs.Words.{found_of, first_of, rows_of};
-ghost use Rattle.rr_words.specs.Words.{moment_at, origin_in, precision_at};
+ghost use Rattle.rr_words.specs.Words.{journal_word_in, moment_at, origin_in, precision_at};
 
+use crate::order::JournalWord;
 use clap::ArgMatches;
 use rr_line::Precision;
 use rr_schema::Origin;
@@ -44,6 +45,17 @@ pub(crate) fn moment_of(text: Option<&str>) -> Option<i64>
     match text {
         None => Some(0),
         Some(text) => integer(text.as_bytes()),
+    }
+}
+
+/// What of a data directory a text asks for.
+pub(crate) fn journal_word_of(text: Option<&str>) -> Option<JournalWord>
+    ensures { result ≡ journal_word_in (option_map (λ s. s.now) text.entry) }
+{
+    match text? {
+        "check" => Some(JournalWord::Check),
+        "cells" => Some(JournalWord::Cells),
+        _ => None,
     }
 }
 

@@ -2,11 +2,11 @@
 
 ghost use Rattle.std.specs.Prelude.{◌≡◌, ◌≢◌, Some, None, IfOk, IfErr, MatchResult, map};
 ghost use Rattle.clap.specs.Words.{found_of, kind_of, rows_of, subcommand_rows_of};
-ghost use Rattle.rr_words.specs.Words.{asked_at, asked_by, asked_of, lines_asked, serve_asked};
+ghost use Rattle.rr_words.specs.Words.{asked_at, asked_by, asked_of, journal_asked, lines_asked, serve_asked};
 
 use crate::fault::WordsFault;
 use crate::order::Order;
-use crate::values::{moment_of, origin_of, owned, precision_of, value_of};
+use crate::values::{journal_word_of, moment_of, origin_of, owned, precision_of, value_of};
 use clap::error::ErrorKind;
 use clap::{ArgMatches, Command, Error};
 use rr_command_line::program;
@@ -17,6 +17,10 @@ const BAD_PRECISION: &str = "invalid value for '--precision <P>': it must be ns,
 const BAD_NOW: &str = "invalid value for '--now <T>': it must be an integer of 64 bits";
 
 const BAD_ORIGIN: &str = "invalid value for '--origin <N>': it must be from 1 to 65,535";
+
+const BAD_WHAT: &str = "invalid value for '<WHAT>': it must be check or cells";
+
+const NO_FOLDER: &str = "the directory was not provided";
 
 const NO_CONFIG: &str = "the configuration was not provided";
 
@@ -88,6 +92,29 @@ fn serve_order(
     })
 }
 
+/// What the matches of `journal` ask for.
+fn journal_order(
+    alloc: Global,
+    command: &mut Command<'_>,
+    matches: &ArgMatches<'_>,
+) -> Result<Order, WordsFault>
+    ensures { MatchResult result
+        (λ order. journal_asked (rows_of (found_of matches.now)) ≡ Some (asked_by order))
+        (λ fault. fault ≢ WordsFault.Memory → journal_asked (rows_of (found_of matches.now))
+        ≡ None) }
+{
+    let Some(what) = journal_word_of(value_of(matches, "WHAT")) else {
+        return Err(value_fault(alloc, command, BAD_WHAT));
+    };
+    let Some(folder) = value_of(matches, "DIR") else {
+        return Err(value_fault(alloc, command, NO_FOLDER));
+    };
+    Ok(Order::Journal {
+        what,
+        folder: String::from_str(alloc, folder)?,
+    })
+}
+
 /// What a command line asks for, by its matches.
 fn order_of(
     alloc: Global,
@@ -108,6 +135,7 @@ fn order_of(
         }
         "check-lines" => lines_order(alloc, command, inner),
         "serve" => serve_order(alloc, command, inner),
+        "journal" => journal_order(alloc, command, inner),
         _ => Err(value_fault(alloc, command, UNKNOWN_COMMAND)),
     }
 }

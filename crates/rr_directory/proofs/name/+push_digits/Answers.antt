@@ -10,9 +10,9 @@ returns-then-count-eq0 t c =
 pub returns : goal.returns
 returns t c =
     let old = c.args.bytes.now.items in
-    let front = digits_of (c.args.count - 1) (c.args.number / 10) in
+    let before = digits_of (c.args.count - 1) (c.args.number / 10) in
     let last = (48 + c.args.number % 10) ∷ [] in
     let some : 0 < c.args.count = omega (arith, c.if-count-eq0.false) in
-    let items : c.push.new.self.items ≡ (old ++ front) ++ last = search rules in
-    items ∙ append_assoc old front last
+    let items : c.push.new.self.items ≡ (old ++ before) ++ last = search rules in
+    items ∙ append_assoc old before last
     ∙ ap (λ (ds : List ℕ). old ++ ds) (sym (digits_more c.args.count c.args.number some))

@@ -1,4 +1,4 @@
-use Rattle.std.proofs.Common.{rules, ◌≡◌, ◌++◌, arith, sym, true, ◌∙◌}
+use Rattle.std.proofs.Common.{rules, length, ◌≡◌, ◌++◌, arith, sym, true, ◌∙◌}
 use Rattle.std.specs.Cmp.Lexicographic.{pointwise}
 use Rattle.std.specs.Prelude.{codes, not, nat_eq}
 use Rattle.std.proofs.lemmas.List.{take-append-drop}
@@ -20,10 +20,9 @@ returns-then-ne c = λ n fits is.
 pub returns : goal.returns
 returns c =
     let text = c.args.text.now in
-    let front = c.split_at.ensures.front in
-    let back = c.split_at.ensures.back in
     let whole : text ≡ c.split_at.result.0.now ++ c.split_at.result.1.now =
     sym (take-append-drop 20 text) ∙ search rules in
+    let len : length c.split_at.result.0.now ≡ 20 = search rules in
     let ending : c.split_at.result.1.now ≡ codes ".rrj" = search rules in
-    offset_read text c.split_at.result.0.now c.split_at.result.1.now c.number.result whole ending
-    c.split_at.ensures.front_len c.number.ensures
+    offset_read text c.split_at.result.0.now c.split_at.result.1.now c.number.result whole ending len
+    c.number.ensures

@@ -93,3 +93,19 @@ returns-clause-no_configuration c = refl
 pub returns-clause-version : goal.returns-clause-version
 unfolding clap_on_literals
 returns-clause-version c = refl
+
+pub returns-clause-journal_check : goal.returns-clause-journal_check
+unfolding clap_on_literals
+returns-clause-journal_check c = refl
+
+pub returns-clause-journal_cells : goal.returns-clause-journal_cells
+unfolding clap_on_literals
+returns-clause-journal_cells c = refl
+
+pub returns-clause-journal_of_nothing : goal.returns-clause-journal_of_nothing
+unfolding clap_on_literals
+returns-clause-journal_of_nothing c = refl
+
+pub returns-clause-other_journal_word : goal.returns-clause-other_journal_word
+unfolding clap_on_literals
+returns-clause-other_journal_word c = refl

@@ -1,0 +1,25 @@
+-- What reading a file by itself tells.
+use Rattle.std.specs.Prelude.{◌≡◌, ℕ, List, length, Result, Ok, Err}
+use Rattle.rr_text.specs.Results.{◌>>=◌}
+use Rattle.rr_schema.specs.Schema.{Layout}
+use Rattle.rr_journal.specs.declared.cursor.Cursor.{Cursor}
+use Rattle.rr_journal.specs.Cursor.{behind_all}
+use Rattle.rr_recovery.specs.Taking.{Recovery, taken_records}
+use Rattle.rr_directory.specs.declared.fault.FileFault.{FileFault}
+use Rattle.rr_directory.specs.declared.name.FileName.{FileName}
+use Rattle.rr_directory.specs.declared.report.FileEnding.{FileEnding}
+use Rattle.rr_directory.specs.Reading.{IsFileFault, as_file, bytes_before, file_records, file_stop, place_of}
+use Rattle.rr_directory.specs.Report.{ending_of}
+
+-- what the records of a file make
+abbrev pub taken_file : Layout → FileName → Recovery → List ℕ → Result Recovery FileFault
+taken_file s name x bytes = place_of s name bytes >>= λ begins. as_file (taken_records x (file_records s begins bytes))
+
+-- the records of a file were taken, and how it ends is told
+abbrev pub Surveys : Layout → FileName → List ℕ → Recovery → Recovery → Result FileEnding FileFault → Type 0
+Surveys s name bytes old new (Ok ending) =
+    (taken_file s name old bytes ≡ Ok new)
+    × ((begins : Cursor) → place_of s name bytes ≡ Ok begins
+    → ending ≡ ending_of (file_stop s begins bytes) (length bytes)
+    (bytes_before s begins (behind_all begins (file_records s begins bytes))))
+Surveys s name bytes old new (Err fault) = IsFileFault (taken_file s name old bytes) fault

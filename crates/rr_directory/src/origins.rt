@@ -1,0 +1,63 @@
+//! The last origin of the files of a directory.
+ghost use Rattle.std.specs.Prelude.{◌≡◌, IfSome, None};
+ghost use Rattle.rr_directory.specs.Origins.{FindsLast, FindsOriginIn, last_origin_in, later, origin_after};
+
+use crate::directory::Directory;
+use crate::fault::{FileFault, Refusal};
+use crate::name::FileName;
+use crate::place::place_from;
+use rr_io::Counted;
+use rr_schema::{Origin, Schema};
+use std::alloc::Global;
+
+/// The later of two origins, where there are two.
+fn later(origin: Option<Origin>, before: Option<Origin>) -> Option<Origin>
+    ensures { result ≡ later origin before }
+{
+    match origin {
+        Some(origin) => Some(origin),
+        None => before,
+    }
+}
+
+/// The origin of a file's last record of one; the one before it, where the file has none.
+fn origin_in<D: Directory>(
+    alloc: Global,
+    directory: &D,
+    name: FileName,
+    schema: &Schema,
+    before: Option<Origin>,
+) -> Result<Option<Origin>, FileFault>
+    ensures { IfSome (D.bytes directory.now) (λ of. FindsOriginIn
+        (origin_after schema.now before name (of name)) result) }
+{
+    let mut input = Counted::new(directory.open(alloc, name)?);
+    let mut place = place_from(alloc, &mut input, schema, name)?;
+    let (_, origin) = rr_recovery::last_origin(alloc, &mut input, &mut place, schema)?;
+    Ok(later(origin, before))
+}
+
+/// The origin of the last record of one in files, as [`start_of`](crate::start_of) gives them, so
+/// that a node can choose a new one before it recovers. Cells aren't looked at, nor is whether the
+/// files join.
+///
+/// Refused at the first file whose header is refused, or that has a record of an origin which means
+/// none. The cost is linear in the bytes.
+pub fn last_origin<D: Directory>(
+    alloc: Global,
+    directory: &D,
+    files: &[FileName],
+    schema: &Schema,
+) -> Result<Option<Origin>, Refusal>
+    ensures { IfSome (D.bytes directory.now) (λ of. FindsLast
+        (last_origin_in schema.now of None files.now) result) }
+{
+    let mut origin = None;
+    for name in files {
+        match origin_in(alloc, directory, *name, schema, origin) {
+            Ok(found) => origin = found,
+            Err(fault) => return Err(Refusal { file: *name, fault }),
+        }
+    }
+    Ok(origin)
+}

@@ -1,0 +1,64 @@
+//! One file of a directory, read by itself.
+ghost use Rattle.std.specs.Prelude.{◌≡◌, IfSome};
+ghost use Rattle.rr_recovery.specs.Taking.{recovery};
+ghost use Rattle.rr_directory.specs.Survey.{Surveys};
+
+use crate::directory::Directory;
+use crate::fault::FileFault;
+use crate::file::replay_file;
+use crate::name::FileName;
+use crate::place::{bytes_before, place_from};
+use crate::report::{FileEnding, FileReport};
+use rr_archive::Cells;
+use rr_io::Counted;
+use rr_recovery::Found;
+use rr_replica::Replica;
+use rr_schema::Schema;
+use std::alloc::Global;
+
+/// How a file ends, whose records are taken into a replica.
+fn ending_in<A: Cells, D: Directory>(
+    alloc: Global,
+    directory: &D,
+    name: FileName,
+    schema: &Schema,
+    replica: &mut Replica<A>,
+    found: &mut Found,
+) -> Result<FileEnding, FileFault>
+    requires { schema.now ≡ replica.old.schema }
+    ensures read { IfSome (D.bytes directory.now) (λ of. Surveys schema.now name (of name)
+        (recovery replica.old found.old) (recovery replica.new found.new) result) }
+    ensures schema { replica.new.schema ≡ replica.old.schema }
+{
+    let mut input = Counted::new(directory.open(alloc, name)?);
+    let begins = place_from(alloc, &mut input, schema, name)?;
+    let (end, stop) = replay_file(alloc, &mut input, &begins, schema, replica, found)?;
+    let len = directory.len(alloc, name)?;
+    Ok(FileEnding::of_stop(stop, len, bytes_before(schema, &begins, &end)))
+}
+
+/// What is to be said of a file by itself: its records are taken into a replica, as
+/// [`recover`](crate::recover) takes them, but it needn't join another, nor be whole.
+pub fn survey<A: Cells, D: Directory>(
+    alloc: Global,
+    directory: &D,
+    name: FileName,
+    schema: &Schema,
+    replica: &mut Replica<A>,
+) -> FileReport
+    requires { schema.now ≡ replica.old.schema }
+    ensures named { result.name ≡ name }
+    ensures schema { replica.new.schema ≡ replica.old.schema }
+{
+    let mut found = Found::new(alloc);
+    let ending = match ending_in(alloc, directory, name, schema, replica, &mut found) {
+        Ok(ending) => ending,
+        Err(fault) => FileEnding::Refused(fault),
+    };
+    FileReport {
+        name,
+        records: found.records,
+        cells: found.cells,
+        ending,
+    }
+}

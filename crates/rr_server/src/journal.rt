@@ -1,0 +1,244 @@
+//! The data directory of a node that isn't running, read for an operator.
+
+mod folder;
+
+use folder::Folder;
+use rr_directory::{
+    Directory, DirectoryFault, FileEnding, FileFault, FileName, FileReport, Recovered, Refusal,
+    empty_replica, push_cell, push_report, push_verdict, recover, schema_in, start_of, survey,
+};
+use rr_io::Counted;
+use rr_io::stream::{flush, write_all};
+use rr_packed::PackedArchive;
+use rr_process::{Ending, ToolFault};
+use rr_replica::{CellWalk, Replica};
+use rr_schema::{ArchiveSpec, Origin, Schema};
+use rr_words::JournalWord;
+use std::alloc::{AllocError, Global};
+use std::io;
+use std::io::Write;
+use std::rt::Files;
+
+/// How many bytes of records are held before they are written.
+const PIECE: usize = 1 << 16;
+
+/// What a node would have after a start: its replica, and what was found besides.
+type Started = Result<(Replica<PackedArchive>, Recovered), Refusal>;
+
+/// The files of a directory, as a node that starts reads them.
+#[derive(Drop)]
+struct StoppedNode<'a, R> {
+    alloc: Global,
+    folder: Folder<'a, R>,
+    files: Vec<FileName>,
+    schema: Schema,
+}
+
+/// A schema for files whose header names none: it is refused then, unless another fault comes first.
+fn any_schema(alloc: Global) -> Result<Schema, ToolFault> {
+    let archive = ArchiveSpec {
+        steps: 1,
+        rows: 1,
+        num: 0,
+        den: 1,
+    };
+    match Schema::new(alloc, 1, &[archive]) {
+        Ok(schema) => Ok(schema),
+        Err(_) => Err(ToolFault::Memory),
+    }
+}
+
+/// The fault of a run that a directory's call ends.
+fn directory_fault(fault: DirectoryFault) -> ToolFault {
+    match fault {
+        DirectoryFault::ReadFailed => ToolFault::ReadFailed,
+        DirectoryFault::Memory => ToolFault::Memory,
+    }
+}
+
+/// The fault of a run that a file ends, if it isn't the file's own.
+fn run_fault(fault: FileFault) -> Option<ToolFault> {
+    match fault {
+        FileFault::ReadFailed => Some(ToolFault::ReadFailed),
+        FileFault::Memory => Some(ToolFault::Memory),
+        _ => None,
+    }
+}
+
+impl<'a, R: Files + Eprint> StoppedNode<'a, R> {
+    /// The files of a directory, and the schema that the first of them names.
+    fn new(rt: &'a R, alloc: Global, path: &'a str) -> Result<StoppedNode<'a, R>, ToolFault> {
+        let folder = Folder::new(rt, path);
+        let names = match folder.names(alloc) {
+            Ok(names) => names,
+            Err(fault) => return Err(directory_fault(fault)),
+        };
+        let files = start_of(alloc, &names)?.files;
+        let named = match files.first() {
+            None => None,
+            Some(first) => match schema_in(alloc, &folder, *first) {
+                Ok(named) => named,
+                Err(fault) => return Err(run_fault(fault).unwrap_or(ToolFault::ReadFailed)),
+            },
+        };
+        let schema = match named {
+            Some(schema) => schema,
+            None => any_schema(alloc)?,
+        };
+        Ok(StoppedNode {
+            alloc,
+            folder,
+            files,
+            schema,
+        })
+    }
+
+    /// What a file has, read under an origin of which it has nothing.
+    fn survey(&self, name: FileName) -> Result<Option<FileReport>, AllocError> {
+        for number in (1..=u16::MAX).rev() {
+            let Ok(origin) = Origin::new(number) else {
+                continue;
+            };
+            let mut replica: Replica<PackedArchive> = empty_replica(
+                self.alloc,
+                &self.schema,
+                origin,
+            )?;
+            let report = survey(self.alloc, &self.folder, name, &self.schema, &mut replica);
+            if report.ending != FileEnding::Refused(FileFault::OriginUsed) {
+                return Ok(Some(report));
+            }
+        }
+        Ok(None)
+    }
+
+    /// What a node would have that starts under an origin of which no file has anything.
+    fn start(&self) -> Result<Option<Started>, AllocError> {
+        for number in (1..=u16::MAX).rev() {
+            let Ok(origin) = Origin::new(number) else {
+                continue;
+            };
+            let mut replica: Replica<PackedArchive> = empty_replica(
+                self.alloc,
+                &self.schema,
+                origin,
+            )?;
+            match recover(
+                self.alloc,
+                &self.folder,
+                &self.files,
+                &self.schema,
+                &mut replica,
+            ) {
+                Ok(recovered) => return Ok(Some(Ok((replica, recovered)))),
+                Err(refusal) if refusal.fault == FileFault::OriginUsed => (),
+                Err(refusal) => return Ok(Some(Err(refusal))),
+            }
+        }
+        Ok(None)
+    }
+
+    /// Writes a line for each file.
+    fn write_reports<W: Write>(&self, output: &mut Counted<W>) -> Result<(), ToolFault> {
+        for name in &self.files {
+            let Some(report) = self.survey(*name)? else {
+                continue;
+            };
+            if let FileEnding::Refused(fault) = report.ending
+                && let Some(fault) = run_fault(fault)
+            {
+                return Err(fault);
+            }
+            let mut text = Vec::new(self.alloc);
+            push_report(self.alloc, &mut text, &report)?;
+            write_all(output, &text)?;
+        }
+        Ok(())
+    }
+
+    /// Writes the last line, and says whether a node would start.
+    fn write_verdict<W: Write>(
+        &self,
+        output: &mut Counted<W>,
+        refusal: Option<&Refusal>,
+    ) -> Result<Ending, ToolFault> {
+        let mut text = Vec::new(self.alloc);
+        push_verdict(self.alloc, &mut text, refusal)?;
+        write_all(output, &text)?;
+        flush(output)?;
+        Ok(match refusal {
+            None => Ending::Done,
+            Some(_) => Ending::DirectoryRefused,
+        })
+    }
+
+    /// Writes what `check` says.
+    fn check<W: Write>(&self, output: &mut Counted<W>) -> Result<Ending, ToolFault> {
+        self.write_reports(output)?;
+        match self.start()? {
+            Some(Err(refusal)) => match run_fault(refusal.fault) {
+                Some(fault) => Err(fault),
+                None => self.write_verdict(output, Some(&refusal)),
+            },
+            _ => self.write_verdict(output, None),
+        }
+    }
+
+    /// Writes the record of each cell of a replica, in the order of their names.
+    fn write_cells<W: Write>(
+        &self,
+        output: &mut Counted<W>,
+        replica: &Replica<PackedArchive>,
+    ) -> Result<Ending, ToolFault> {
+        let mut walk = CellWalk::new(self.alloc, replica);
+        let mut next = replica.cell_at(0);
+        let mut text = Vec::new(self.alloc);
+        for _ in 0..u64::MAX {
+            let Some(cell) = next else {
+                break;
+            };
+            push_cell(self.alloc, &mut text, &cell)?;
+            if text.len() >= PIECE {
+                write_all(output, &text)?;
+                text.clear();
+            }
+            next = walk.next_cell(cell.key, cell.archive, cell.slot, cell.origin);
+        }
+        write_all(output, &text)?;
+        flush(output)?;
+        Ok(Ending::Done)
+    }
+
+    /// Writes what `cells` says.
+    fn cells<W: Write>(&self, output: &mut Counted<W>) -> Result<Ending, ToolFault> {
+        match self.start()? {
+            Some(Ok((replica, _))) => self.write_cells(output, &replica),
+            Some(Err(refusal)) => match run_fault(refusal.fault) {
+                Some(fault) => Err(fault),
+                None => self.write_verdict(output, Some(&refusal)),
+            },
+            None => Ok(Ending::Done),
+        }
+    }
+}
+
+/// Reads a directory, and says how that ended: what is asked of it is written to standard output. A
+/// directory or a file that can't be read is named on standard error.
+pub(crate) fn read_directory(
+    rt: &(impl AllocGlobal + Files + Print + Eprint),
+    what: JournalWord,
+    path: &str,
+) -> Ending {
+    let mut output = Counted::new(io::writer(rt));
+    let ended = match StoppedNode::new(rt, rt.alloc(), path) {
+        Ok(node) => match what {
+            JournalWord::Check => node.check(&mut output),
+            JournalWord::Cells => node.cells(&mut output),
+        },
+        Err(fault) => Err(fault),
+    };
+    match ended {
+        Ok(ending) => ending,
+        Err(fault) => Ending::Failed(fault),
+    }
+}
