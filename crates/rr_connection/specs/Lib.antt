@@ -1,0 +1,7 @@
+pub mod Requests
+pub mod Refused
+pub mod Stands
+pub mod Receiving
+pub mod Answer
+pub mod Answering
+pub mod Pieces
