@@ -5,3 +5,4 @@ pub mod Receiving
 pub mod Answer
 pub mod Answering
 pub mod Pieces
+pub mod Wants

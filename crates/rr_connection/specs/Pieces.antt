@@ -1,5 +1,5 @@
 -- The pieces of a connection for lines.
-use Rattle.std.specs.Prelude.{◌≡◌, ℕ, ◌≤◌, ◌<◌, min, Bool, true, false, ◌&&◌, ◌||◌, ◌⊎◌, List, [], ◌∷◌, ◌++◌, take, length, Option, Some, None, nat_le, ◌==◌}
+use Rattle.std.specs.Prelude.{◌≡◌, ℕ, ◌+◌, not, nat_lt, ◌≤◌, ◌<◌, min, Bool, true, false, ◌&&◌, ◌||◌, ◌⊎◌, List, [], ◌∷◌, ◌++◌, take, length, Option, Some, None, nat_le, ◌==◌}
 use Rattle.rr_text.specs.Bytes.{HasNoLineFeed}
 use Rattle.rr_text.specs.declared.bytes.TheConstants.{LINE_FEED}
 use Rattle.rr_connection.specs.declared.lines.LineConnection.{LineConnection}
@@ -28,6 +28,20 @@ receives Over = false
 -- the next piece may be given
 abbrev pub is_ready : LineConnection → Bool
 is_ready c = receives c.phase && nat_le (length (unsent_of c)) MAX_UNSENT
+
+abbrev pub is_over : Phase → Bool
+is_over Receives = false
+is_over Waits = false
+is_over WaitsLast = false
+is_over Over = true
+
+-- more is to be received: it hasn't ended, and neither what is unread nor what is to be sent is too much
+abbrev pub wants_read : LineConnection → Bool
+wants_read c = not (has_ended c) && (nat_lt (length (unread_of c)) PIECE && nat_le (length (unsent_of c)) MAX_UNSENT)
+
+-- how many bytes are allocated for it
+abbrev pub allocated : LineConnection → ℕ
+allocated c = (length c.unread.items + c.unread.spare) + (length c.unsent.items + c.unsent.spare)
 
 -- a text ends in a line feed
 abbrev pub EndsLine : List ℕ → Type 0

@@ -1,5 +1,5 @@
 -- What is found in what was received.
-use Rattle.std.specs.Prelude.{◌≡◌, ℕ, List, [], ◌∷◌, ◌++◌, replicate, flat_map, Some, None, ⊤}
+use Rattle.std.specs.Prelude.{◌≡◌, ℕ, codes, List, [], ◌∷◌, ◌++◌, replicate, flat_map, Some, None, ⊤}
 use Rattle.httparse.specs.declared.spans.HeaderSpan.{HeaderSpan}
 use Rattle.httparse.specs.declared.spans.RequestSpans.{RequestSpans}
 use Rattle.http1.specs.declared.conn.Limits.{Limits}
@@ -10,7 +10,6 @@ use Rattle.http1.specs.Message.{ReadsRequests}
 use Rattle.http1.specs.Server.{ServerReads}
 use Rattle.rr_connection.specs.declared.http.HttpConnection.{HttpConnection}
 use Rattle.rr_connection.specs.declared.http.Phase.TheVariants.{Receives, Waits, Over}
-use Rattle.rr_connection.specs.declared.receiving.TheConstants.{CONTINUE}
 use Rattle.rr_connection.specs.declared.receiving.Found.{Found}
 use Rattle.rr_connection.specs.declared.receiving.Step.{Step}
 use Rattle.rr_connection.specs.declared.receiving.Step.TheVariants.{On, Stop}
@@ -37,9 +36,13 @@ found_text Found.Nothing = []
 found_text (Found.Refused refusal) = refusal_text refusal
 found_text Found.Ended = []
 
+-- the response that lets a client send its body
+abbrev pub invitation : List ℕ
+invitation = codes "HTTP/1.1 100 Continue\r\n\r\n"
+
 abbrev pub Sends : List ℕ → HttpConnection → HttpConnection → Type 0
 Sends text old new =
-    (count : ℕ) × (unsent_of new ≡ unsent_of old ++ (flat_map (λ continue. continue) (replicate count CONTINUE.now) ++ text))
+    (count : ℕ) × (unsent_of new ≡ unsent_of old ++ (flat_map (λ continue. continue) (replicate count invitation) ++ text))
 
 -- after an event
 abbrev pub Reached : ℕ → Step → HttpConnection → Limits → List ℕ → RequestList → Type 0

@@ -3,6 +3,7 @@
 ghost use Rattle.std.specs.Prelude.{◌≡◌, ◌≤◌, ◌++◌, List, [], ℕ, min, drop, length, OnOk, None, ◌&&◌, nat_le, nat_lt, ◌==◌, not};
 ghost use Rattle.http1.specs.declared.conn.Limits.{Limits};
 ghost use Rattle.rr_connection.specs.Stands.{Asked, RequestList};
+ghost use Rattle.rr_connection.specs.Wants.{part_room};
 
 use crate::request::Request;
 use crate::room::{MAX_UNREAD, MAX_UNSENT, release};
@@ -12,6 +13,8 @@ use std::alloc::{AllocError, Global};
 
 /// A head has at most this many fields, and a body as many trailers.
 pub const MAX_HEADERS: usize = 64;
+
+const _: () = prove!(MAX_HEADERS == 64);
 
 /// Where a connection stands.
 #[derive(Clone, Copy, Debug, PartialEq, Eq)]
@@ -40,8 +43,20 @@ pub struct HttpConnection {
     pub(crate) unsent: BytesMut,
 }
 
+/// How many bytes are allocated for a body of which not everything was received.
+fn part_room(part: &Option<Request>) -> usize
+    ensures { result ≡ part_room part.now }
+{
+    match part {
+        Some(part) => part.body.capacity(),
+        None => 0,
+    }
+}
+
 impl HttpConnection {
     ghost use Rattle.rr_connection.specs.Stands.{HasGiven, Keeps, is_ready, unsent_of};
+    ghost use Rattle.rr_connection.specs.Wants.{allocated, is_over, is_within_body, is_within_request};
+    ghost use Rattle.rr_connection.specs.Wants.{wants_read};
 
     /// A connection that has received nothing, with a body of at most `max_body` bytes.
     pub fn new(alloc: Global, limits: Limits, max_body: usize) -> HttpConnection
@@ -80,7 +95,9 @@ impl HttpConnection {
     }
 
     /// Whether more is to be received.
-    pub fn wants_read(&self) -> bool {
+    pub fn wants_read(&self) -> bool
+        ensures { result ≡ wants_read self.now }
+    {
         self.phase != Phase::Over
             && !self.has_ended
             && self.unread.len() < MAX_UNREAD
@@ -95,30 +112,34 @@ impl HttpConnection {
     }
 
     /// Whether nothing more is read, whether or not all is sent.
-    pub fn is_over(&self) -> bool {
+    pub fn is_over(&self) -> bool
+        ensures { result ≡ is_over self.now.phase }
+    {
         self.phase == Phase::Over
     }
 
     /// Whether part of a request was received, but not all of it.
-    pub fn is_within_request(&self) -> bool {
+    pub fn is_within_request(&self) -> bool
+        ensures { result ≡ is_within_request self.now }
+    {
         self.phase == Phase::Receives && (self.part.is_some() || !self.unread.is_empty())
     }
 
     /// Whether a request's head was received, but not all of its body.
-    pub fn is_within_body(&self) -> bool {
+    pub fn is_within_body(&self) -> bool
+        ensures { result ≡ is_within_body self.now }
+    {
         self.phase == Phase::Receives && self.part.is_some()
     }
 
     /// How many bytes of memory are held for it, counted as allocated and not as filled.
-    pub fn held(&self) -> usize {
-        let body = match &self.part {
-            Some(part) => part.body.capacity(),
-            None => 0,
-        };
+    pub fn held(&self) -> usize
+        ensures { result ≡ min (allocated self.now) usize.MAX }
+    {
         self.unread
             .capacity()
             .saturating_add(self.unsent.capacity())
-            .saturating_add(body)
+            .saturating_add(part_room(&self.part))
     }
 
     /// What is to be sent.

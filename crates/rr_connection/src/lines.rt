@@ -1,6 +1,6 @@
 //! The pieces of a connection for lines.
 
-ghost use Rattle.std.specs.Prelude.{◌≡◌, ◌≤◌, ◌++◌, ◌||◌, ◌==◌, [], drop, length, take, true, IfOk, OnErr, OnOk, MatchOption};
+ghost use Rattle.std.specs.Prelude.{◌≡◌, ◌≤◌, ◌++◌, ◌||◌, ◌==◌, [], drop, length, min, not, take, true, IfOk, OnErr, OnOk, MatchOption};
 
 use crate::room::{MAX_UNSENT, release};
 use bytes::BytesMut;
@@ -10,6 +10,8 @@ use std::alloc::{AllocError, Global};
 
 /// A piece has at most this many bytes, and no more are received while as many are unread.
 pub const PIECE: usize = 128 * 1024;
+
+const _: () = prove!(PIECE == 131_072);
 
 /// Bytes of a connection for lines that follow one another: whole lines, except where the input
 /// ended within a line, or [`PIECE`] bytes hold no line feed.
@@ -47,7 +49,8 @@ pub struct LineConnection {
 impl LineConnection {
     ghost use Rattle.rr_connection.specs.declared.lines.Phase.TheVariants as Phase;
     ghost use Rattle.rr_connection.specs.Pieces.{AwaitsMore, IsNextLen, IsPiece};
-    ghost use Rattle.rr_connection.specs.Pieces.{after_answer, has_ended, is_ready, unread_of, unsent_of};
+    ghost use Rattle.rr_connection.specs.Pieces.{after_answer, allocated, has_ended, is_over};
+    ghost use Rattle.rr_connection.specs.Pieces.{is_ready, unread_of, unsent_of, wants_read};
 
     /// A connection that has received nothing.
     pub fn new(alloc: Global) -> LineConnection
@@ -82,22 +85,30 @@ impl LineConnection {
     }
 
     /// Whether more is to be received.
-    pub fn wants_read(&self) -> bool {
+    pub fn wants_read(&self) -> bool
+        ensures { result ≡ wants_read self.now }
+    {
         !self.has_ended && self.unread.len() < PIECE && self.unsent.len() <= MAX_UNSENT
     }
 
     /// Whether bytes are to be sent.
-    pub fn wants_write(&self) -> bool {
+    pub fn wants_write(&self) -> bool
+        ensures { result ≡ not (length (unsent_of self.now) == 0) }
+    {
         !self.unsent.is_empty()
     }
 
     /// Whether the last piece was answered, whether or not all is sent.
-    pub fn is_over(&self) -> bool {
+    pub fn is_over(&self) -> bool
+        ensures { result ≡ is_over self.now.phase }
+    {
         self.phase == Phase::Over
     }
 
     /// How many bytes of memory are held for it, counted as allocated and not as filled.
-    pub fn held(&self) -> usize {
+    pub fn held(&self) -> usize
+        ensures { result ≡ min (allocated self.now) usize.MAX }
+    {
         self.unread
             .capacity()
             .saturating_add(self.unsent.capacity())

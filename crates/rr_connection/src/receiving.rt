@@ -188,6 +188,7 @@ impl HttpConnection {
             Event::End(_trailers) => self.give(read.consumed),
             _ => {
                 self.unread.advance(read.consumed);
+                release(self.alloc, &mut self.unread);
                 self.wait()
             }
         }

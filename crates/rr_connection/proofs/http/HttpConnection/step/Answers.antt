@@ -34,5 +34,5 @@ returns-in_default-clause-found c = λ limits received answered x.
     let did = rw c.as_slice.ensures at c.in-Ok.ensures.ok in
     let r = none_read limits received answered old.unread.items c.read.new.headers old.server c.read.new.self old.part c.in-Ok.read
     c.in_default.not-Head c.in_default.not-Data c.in_default.not-End (receiving old limits received answered x.0 x.1) did in
-    let now = record old { server = c.read.new.self; unread = c.advance.new.self } in
-    c.wait.ensures.found limits received answered (r.0, (c.requires.phase, given_by now limits received answered c.requires.phase (rw c.advance.ensures.items r.1)))
+    let now = record old { server = c.read.new.self; unread = c.release.new.buffer } in
+    c.wait.ensures.found limits received answered (r.0, (c.requires.phase, given_by now limits received answered c.requires.phase (rw (c.release.ensures, c.advance.ensures.items) r.1)))
