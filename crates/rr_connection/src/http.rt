@@ -1,6 +1,6 @@
 //! A connection of HTTP/1.1.
 
-ghost use Rattle.std.specs.Prelude.{◌≡◌, ◌≤◌, ◌++◌, List, [], ℕ, min, drop, length, OnOk, None, ◌&&◌, nat_le, nat_lt, ◌==◌, not};
+ghost use Rattle.std.specs.Prelude.{◌≡◌, ◌++◌, List, [], ℕ, min, drop, length, OnOk, None, ◌==◌, not};
 ghost use Rattle.http1.specs.declared.conn.Limits.{Limits};
 ghost use Rattle.rr_connection.specs.Stands.{Asked, RequestList};
 ghost use Rattle.rr_connection.specs.Wants.{part_room};

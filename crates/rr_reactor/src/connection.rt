@@ -1,6 +1,6 @@
 //! One connection: what is said over it, and its socket.
 
-ghost use Rattle.std.specs.Prelude.{◌≡◌, None, IsSome};
+ghost use Rattle.std.specs.Prelude.{◌≡◌};
 ghost use Rattle.rr_reactor.specs.Connection.{GivesOne, GivesStep, item_of};
 
 use crate::item::{Outcome, Work};

@@ -1,6 +1,6 @@
 //! What connections may take.
 
-ghost use Rattle.std.specs.Prelude.{◌≡◌, ◌≤◌, ◌<◌, ◌-◌, ◌||◌, ◌&&◌, nat_le, nat_lt, not};
+ghost use Rattle.std.specs.Prelude.{◌≡◌};
 ghost use Rattle.rr_reactor.specs.Limits.{is_behind, may_read};
 
 /// What the connections of a reactor may take. Times are in milliseconds.
