@@ -1,5 +1,9 @@
 //! All connections, by their keys.
 
+ghost use Rattle.std.specs.Prelude.{◌≡◌, ◌+◌, ◌<◌, ◌≤◌};
+ghost use Rattle.std.specs.Bool.{OnTrue};
+ghost use Rattle.rr_reactor.specs.Connections.{count_of, most_of};
+
 use crate::connection::{Connection, Progress};
 use crate::item::{Item, Outcome, Work};
 use crate::limits::Limits;
@@ -85,7 +89,9 @@ impl<S: Socket> Connections<S> {
     }
 
     /// How many there are.
-    pub fn len(&self) -> usize {
+    pub fn len(&self) -> usize
+        ensures { result ≡ count_of self.now }
+    {
         self.slab.len()
     }
 
@@ -116,7 +122,10 @@ impl<S: Socket> Connections<S> {
     }
 
     /// Takes one more in. It is let go if there is no memory for it.
-    pub fn admit(&mut self, socket: S, protocol: Protocol, now: u64) {
+    pub fn admit(&mut self, socket: S, protocol: Protocol, now: u64)
+        ensures count { count_of self.new ≤ count_of self.old + 1 }
+        ensures most { most_of self.new ≡ most_of self.old }
+    {
         let _put = self.slab.insert(Connection::new(socket, protocol, now));
     }
 
@@ -269,7 +278,9 @@ impl<S: Socket> Connections<S> {
     /// Lets one go for a new one, if as many are there as may be, and says whether there is room: the
     /// one that was idle longest, else the one whose request takes longest. The cost is linear in the
     /// connections.
-    pub fn make_room(&mut self, now: u64) -> bool {
+    pub fn make_room(&mut self, now: u64) -> bool
+        ensures { OnTrue result (count_of self.new < most_of self.new) }
+    {
         if self.slab.len() < self.limits.connections {
             return true;
         }
