@@ -11,7 +11,7 @@ use crate::watch::{Candidate, Stage, Watch};
 use std::mem;
 
 /// A connection moves this many times before others get on.
-const STEPS: u64 = 64;
+const STEPS: u64 = 8;
 
 /// What came of moving a connection on.
 #[derive(Debug, Drop)]

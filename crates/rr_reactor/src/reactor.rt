@@ -17,7 +17,7 @@ use std::sync::{Arc, Wait};
 use std::time::{Clock, Duration, Instant};
 
 /// How many events are taken at a time.
-const EVENTS: usize = 1_024;
+const EVENTS: usize = 256;
 
 /// How often times are looked at, in milliseconds.
 const SWEEP: u64 = 1_000;
