@@ -41,7 +41,7 @@ WORDS = {
 }
 
 # Names and clauses of the standard library that have such a word.
-STANDARD = re.compile(r"\b(pop_front|push_front|move_to_front|split_at\.ensures\.front)\b")
+STANDARD = re.compile(r"\b(pop_front|push_front|move_to_front|split_at\.ensures\.front)\b|\.front\(\)")
 
 NAME = re.compile(r"[A-Za-z_][A-Za-z0-9_']*")
 

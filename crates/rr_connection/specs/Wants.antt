@@ -1,0 +1,36 @@
+-- What a connection waits for, and how much is allocated for it.
+use Rattle.std.specs.Prelude.{ℕ, ◌+◌, Bool, true, false, not, ◌&&◌, ◌||◌, Option, Some, None, is_some, length, vec_capacity, nat_le, nat_lt, ◌==◌}
+use Rattle.rr_connection.specs.declared.http.HttpConnection.{HttpConnection}
+use Rattle.rr_connection.specs.declared.http.Phase.{Phase}
+use Rattle.rr_connection.specs.declared.http.Phase.TheVariants.{Receives, Waits, Over}
+use Rattle.rr_connection.specs.declared.request.Request.{Request}
+use Rattle.rr_connection.specs.declared.room.TheConstants.{MAX_UNREAD, MAX_UNSENT}
+use Rattle.rr_connection.specs.Stands.{receives, unsent_of}
+
+-- nothing more is read
+abbrev pub is_over : Phase → Bool
+is_over Receives = false
+is_over Waits = false
+is_over Over = true
+
+-- more is to be received: it hasn't ended, and neither what is unread nor what is to be sent is too much
+abbrev pub wants_read : HttpConnection → Bool
+wants_read c =
+    not (is_over c.phase)
+    && (not c.has_ended && (nat_lt (length c.unread.items) MAX_UNREAD && nat_le (length (unsent_of c)) MAX_UNSENT))
+
+-- a part of a request was received, and all of its head
+abbrev pub is_within_request : HttpConnection → Bool
+is_within_request c = receives c.phase && (is_some c.part || not (length c.unread.items == 0))
+
+abbrev pub is_within_body : HttpConnection → Bool
+is_within_body c = receives c.phase && is_some c.part
+
+-- how many bytes are allocated for it
+abbrev pub part_room : Option Request → ℕ
+part_room None = 0
+part_room (Some part) = vec_capacity part.body
+
+abbrev pub allocated : HttpConnection → ℕ
+allocated c =
+    (length c.unread.items + c.unread.spare) + (length c.unsent.items + c.unsent.spare) + part_room c.part

@@ -1,0 +1,4 @@
+pub mod Limits
+pub mod Watch
+pub mod Connection
+pub mod Connections

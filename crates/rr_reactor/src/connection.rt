@@ -1,0 +1,296 @@
+//! One connection: what is said over it, and its socket.
+
+ghost use Rattle.std.specs.Prelude.{◌≡◌};
+ghost use Rattle.rr_reactor.specs.Connection.{GivesOne, GivesStep, item_of};
+
+use crate::item::{Outcome, Work};
+use crate::limits::Limits;
+use crate::protocol::Protocol;
+use crate::socket::{Moved, Socket, moved_by};
+use crate::watch::{Candidate, Stage, Watch};
+use std::mem;
+
+/// A connection moves this many times before others get on.
+const STEPS: u64 = 8;
+
+/// What came of moving a connection on.
+#[derive(Debug, Drop)]
+pub(crate) enum Progress {
+    /// This is asked for, and is out now.
+    Work(Work),
+    /// It waits for its socket, or for an answer.
+    Waits,
+    /// It could be moved on at once.
+    Goes,
+}
+
+/// One connection.
+#[derive(Drop)]
+pub struct Connection<S> {
+    /// Its socket, until that has failed or was closed.
+    socket: Option<S>,
+    protocol: Protocol,
+    is_readable: bool,
+    is_writable: bool,
+    /// Whether the other side was seen to have ended.
+    is_ending: bool,
+    /// Whether all was received.
+    has_ended: bool,
+    /// Whether what comes is let go, since nothing more is read.
+    drains: bool,
+    /// Whether it is among those that could be moved on at once.
+    is_queued: bool,
+    /// How many bytes are held for the item that is out, if one is.
+    out: Option<usize>,
+    /// Whether bytes came or went since its watch was set.
+    has_moved: bool,
+    watch: Watch,
+}
+
+impl<S: Socket> Connection<S> {
+    /// A connection that has just come.
+    pub fn new(socket: S, protocol: Protocol, now: u64) -> Connection<S>
+        ensures { item_of result ≡ None }
+    {
+        Connection {
+            socket: Some(socket),
+            protocol,
+            is_readable: true,
+            is_writable: true,
+            is_ending: false,
+            has_ended: false,
+            drains: false,
+            is_queued: false,
+            out: None,
+            has_moved: false,
+            watch: Watch::new(now),
+        }
+    }
+
+    /// Whether it may be forgotten: its socket is gone, and no item of it is out.
+    pub(crate) fn is_gone(&self) -> bool {
+        self.socket.is_none() && self.out.is_none()
+    }
+
+    /// Whether its time is over.
+    pub(crate) fn is_late(&self, limits: &Limits, now: u64) -> bool {
+        self.watch.is_late(limits, now)
+    }
+
+    /// Whether it could be read on, except that too much memory is held.
+    pub(crate) fn is_held_up(&self) -> bool {
+        self.out.is_none() && !self.is_queued && self.can_read()
+    }
+
+    /// Notes that it is to be moved on again, or that it was, and says whether that was noted before.
+    pub(crate) fn set_queued(&mut self, is_queued: bool) -> bool
+        ensures { item_of self.new ≡ item_of self.old }
+    {
+        mem::replace(&mut self.is_queued, is_queued)
+    }
+
+    /// Whether a request isn't read on, and the client has ended: it won't take the answer.
+    pub(crate) fn is_left(&self) -> bool {
+        self.is_ending && self.is_held_up() && matches!(self.protocol, Protocol::Http(_))
+    }
+
+    /// What it is among those that may be let go for a new one.
+    pub(crate) fn candidate(&self, key: usize, now: u64) -> Option<Candidate> {
+        self.watch.candidate(key, now)
+    }
+
+    /// How many bytes of memory are held for it and its item.
+    pub(crate) fn held(&self) -> usize {
+        self.protocol.held().saturating_add(self.out.unwrap_or(0))
+    }
+
+    /// Notes what its socket is ready for, and whether the other side was seen to have ended.
+    pub(crate) fn note(&mut self, is_readable: bool, is_writable: bool, is_ending: bool)
+        ensures { item_of self.new ≡ item_of self.old }
+    {
+        self.is_readable |= is_readable;
+        self.is_writable |= is_writable;
+        self.is_ending |= is_ending;
+    }
+
+    /// Lets its socket go.
+    pub(crate) fn close(&mut self)
+        ensures { item_of self.new ≡ item_of self.old }
+    {
+        self.socket = None;
+    }
+
+    /// Takes the answer to its item in.
+    pub(crate) fn answer(&mut self, outcome: Outcome)
+        ensures { item_of self.new ≡ None }
+    {
+        self.out = None;
+        if !self.protocol.answer(outcome) {
+            self.close();
+        }
+    }
+
+    /// Writes once.
+    fn write(&mut self)
+        ensures { item_of self.new ≡ item_of self.old }
+    {
+        let Some(socket) = &mut self.socket else {
+            return;
+        };
+        match self.protocol.write_to(socket) {
+            Moved::Bytes(_) => self.has_moved = true,
+            Moved::Again => {}
+            Moved::Later => self.is_writable = false,
+            Moved::End | Moved::Failed => self.close(),
+        }
+    }
+
+    /// Takes in the first bytes, unless what comes is let go.
+    fn take_in(&mut self, bytes: &[u8], count: usize)
+        ensures { item_of self.new ≡ item_of self.old }
+    {
+        self.has_moved = true;
+        // A socket that gave less than it might has no more, unless its end is still to be read.
+        if count < bytes.len() && !self.is_ending {
+            self.is_readable = false;
+        }
+        if !self.drains && self.protocol.receive(bytes, count).is_err() {
+            self.close();
+        }
+    }
+
+    /// Notes that the other side has ended.
+    fn take_end(&mut self)
+        ensures { item_of self.new ≡ item_of self.old }
+    {
+        self.is_readable = false;
+        self.has_ended = true;
+        self.protocol.end();
+        if self.drains {
+            self.close();
+        }
+    }
+
+    /// Reads once.
+    fn read(&mut self, scratch: &mut [u8])
+        ensures { item_of self.new ≡ item_of self.old }
+    {
+        let Some(socket) = &mut self.socket else {
+            return;
+        };
+        match moved_by(socket.read(scratch)) {
+            Moved::Bytes(count) => self.take_in(scratch, count),
+            Moved::End => self.take_end(),
+            Moved::Again => {}
+            Moved::Later => self.is_readable = false,
+            Moved::Failed => self.close(),
+        }
+    }
+
+    /// Whether it can be written to now.
+    fn can_write(&self) -> bool {
+        self.socket.is_some() && self.is_writable && self.protocol.wants_write()
+    }
+
+    /// Whether it can be read now.
+    fn can_read(&self) -> bool {
+        self.socket.is_some() && self.is_readable && (self.drains || self.protocol.wants_read())
+    }
+
+    /// What is asked for next, if nothing is out. Then that is out.
+    fn ask(&mut self) -> Option<Work>
+        ensures { GivesOne (item_of self.old) result (item_of self.new) }
+    {
+        if self.out.is_some() || self.socket.is_none() {
+            return None;
+        }
+        match self.protocol.next() {
+            Ok(Some(work)) => {
+                self.out = Some(work.held());
+                Some(work)
+            }
+            Ok(None) => None,
+            Err(_) => {
+                self.close();
+                None
+            }
+        }
+    }
+
+    /// Ends it once nothing more is read and all is sent. What the other side still sends is let go,
+    /// since its socket would else lose what was sent.
+    fn finish(&mut self)
+        ensures { item_of self.new ≡ item_of self.old }
+    {
+        if !self.protocol.is_over() || self.protocol.wants_write() || self.drains {
+            return;
+        }
+        if self.has_ended {
+            self.close();
+            return;
+        }
+        self.drains = true;
+        if let Some(socket) = &mut self.socket {
+            socket.end();
+        }
+    }
+
+    /// Moves once: writes, asks, ends or reads.
+    fn step(&mut self, scratch: &mut [u8], may_read: bool) -> Progress
+        ensures { GivesStep (item_of self.old) result (item_of self.new) }
+    {
+        if self.can_write() {
+            self.write();
+            return Progress::Goes;
+        }
+        if let Some(work) = self.ask() {
+            return Progress::Work(work);
+        }
+        self.finish();
+        if self.can_write() {
+            self.write();
+            Progress::Goes
+        } else if may_read && self.can_read() {
+            self.read(scratch);
+            Progress::Goes
+        } else {
+            Progress::Waits
+        }
+    }
+
+    /// Moves on, until something is asked for or it has to wait.
+    fn move_on(&mut self, scratch: &mut [u8], may_read: bool) -> Progress
+        ensures { GivesStep (item_of self.old) result (item_of self.new) }
+    {
+        for _ in 0..STEPS {
+            match self.step(scratch, may_read) {
+                Progress::Goes => {}
+                progress => return progress,
+            }
+        }
+        Progress::Goes
+    }
+
+    /// What it waits for.
+    fn stage(&self) -> Stage {
+        if self.out.is_some() {
+            Stage::Answer
+        } else if self.protocol.wants_write() {
+            Stage::Download
+        } else if self.drains {
+            Stage::Refused
+        } else {
+            self.protocol.stage()
+        }
+    }
+
+    /// Moves on, and sets its watch.
+    pub(crate) fn pump(&mut self, scratch: &mut [u8], may_read: bool, now: u64) -> Progress
+        ensures { GivesStep (item_of self.old) result (item_of self.new) }
+    {
+        let progress = self.move_on(scratch, may_read);
+        self.watch = self.watch.note(self.stage(), self.has_moved, now);
+        self.has_moved = false;
+        progress
+    }
+}

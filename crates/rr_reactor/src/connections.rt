@@ -1,0 +1,302 @@
+//! All connections, by their keys.
+
+ghost use Rattle.std.specs.Prelude.{◌≡◌, ◌+◌, ◌<◌, ◌≤◌};
+ghost use Rattle.std.specs.Bool.{OnTrue};
+ghost use Rattle.rr_reactor.specs.Connections.{count_of, most_of};
+
+use crate::connection::{Connection, Progress};
+use crate::item::{Item, Outcome, Work};
+use crate::limits::Limits;
+use crate::protocol::Protocol;
+use crate::socket::Socket;
+use crate::watch::first_to_go;
+use rr_connection::{Field, Reply, Value};
+use slab::Slab;
+use std::alloc::{AllocError, Global};
+use std::collections::VecDeque;
+
+/// How many bytes are read at a time at most.
+const SCRATCH: usize = 64 * 1024;
+
+/// What was asked for, and is to be handed on.
+#[derive(Drop)]
+pub struct Asked {
+    /// To whoever keeps.
+    pub writes: VecDeque<Item>,
+    /// To whoever reads.
+    pub fetches: VecDeque<Item>,
+}
+
+/// All connections of a reactor, over sockets of one type.
+#[derive(Drop)]
+pub struct Connections<S> {
+    alloc: Global,
+    limits: Limits,
+    slab: Slab<Connection<S>>,
+    held: usize,
+    scratch: Vec<u8>,
+    asked: Asked,
+    /// The keys of those that can be moved on at once.
+    ready: VecDeque<usize>,
+    /// Whether the queue of writes is behind, and that of fetches.
+    writes_behind: bool,
+    fetches_behind: bool,
+}
+
+/// The answer to a request where the queue is behind.
+fn busy(alloc: Global) -> Result<Reply, AllocError> {
+    let mut fields = Vec::with_capacity(alloc, 2)?;
+    fields.push(Field {
+        name: b"content-type",
+        value: Value::Constant(b"application/json"),
+    })?;
+    fields.push(Field {
+        name: b"retry-after",
+        value: Value::Constant(b"1"),
+    })?;
+    let text = b"{\"error\":\"the node is behind: nothing was written\"}\n";
+    Ok(Reply {
+        status: 503,
+        fields,
+        body: Vec::from_slice(alloc, text.as_slice())?,
+        closes: false,
+    })
+}
+
+impl<S: Socket> Connections<S> {
+    /// None.
+    pub fn new(alloc: Global, limits: Limits) -> Result<Connections<S>, AllocError> {
+        let asked = Asked {
+            writes: VecDeque::with_capacity(alloc, limits.connections)?,
+            fetches: VecDeque::with_capacity(alloc, limits.connections)?,
+        };
+        Ok(Connections {
+            alloc,
+            limits,
+            slab: Slab::new(alloc),
+            held: 0,
+            scratch: Vec::from_elem(alloc, 0, SCRATCH)?,
+            asked,
+            ready: VecDeque::with_capacity(alloc, limits.connections)?,
+            writes_behind: false,
+            fetches_behind: false,
+        })
+    }
+
+    /// What was asked for, and is to be handed on.
+    pub fn asked(&mut self) -> &mut Asked {
+        &mut self.asked
+    }
+
+    /// How many there are.
+    pub fn len(&self) -> usize
+        ensures { result ≡ count_of self.now }
+    {
+        self.slab.len()
+    }
+
+    /// Whether there is none.
+    pub fn is_empty(&self) -> bool {
+        self.slab.is_empty()
+    }
+
+    /// How many bytes of memory are held for them.
+    pub fn held(&self) -> usize {
+        self.held
+    }
+
+    /// Whether some could be moved on at once.
+    pub fn has_ready(&self) -> bool {
+        !self.ready.is_empty()
+    }
+
+    /// The key of the next one that comes.
+    pub fn next_key(&self) -> usize {
+        self.slab.vacant_key()
+    }
+
+    /// Notes which queues are behind: requests for them are answered 503 from here on.
+    pub fn set_behind(&mut self, writes: bool, fetches: bool) {
+        self.writes_behind = writes;
+        self.fetches_behind = fetches;
+    }
+
+    /// Takes one more in. It is let go if there is no memory for it.
+    pub fn admit(&mut self, socket: S, protocol: Protocol, now: u64)
+        ensures count { count_of self.new ≤ count_of self.old + 1 }
+        ensures most { most_of self.new ≡ most_of self.old }
+    {
+        let _put = self.slab.insert(Connection::new(socket, protocol, now));
+    }
+
+    /// Whether work of this kind is answered 503.
+    fn is_refused(&self, work: &Work) -> bool {
+        let is_behind = if work.is_write() {
+            self.writes_behind
+        } else {
+            self.fetches_behind
+        };
+        is_behind && work.is_request()
+    }
+
+    /// Notes what is to be handed on. There is room for an item of each connection.
+    fn put(&mut self, item: Item) {
+        let key = item.key;
+        let put = if item.work.is_write() {
+            self.asked.writes.push_back(item)
+        } else {
+            self.asked.fetches.push_back(item)
+        };
+        if put.is_err() {
+            self.take_answer(key, Outcome::Nothing);
+        }
+    }
+
+    /// Passes an answer to its connection.
+    fn take_answer(&mut self, key: usize, outcome: Outcome) {
+        if let Some(connection) = self.slab.get_mut(key) {
+            let before = connection.held();
+            connection.answer(outcome);
+            let after = connection.held();
+            self.held = self.held.saturating_sub(before).saturating_add(after);
+        }
+    }
+
+    /// Forgets one whose socket is gone, unless an item of it is out.
+    fn forget(&mut self, key: usize) {
+        let is_gone = match self.slab.get(key) {
+            Some(connection) => connection.is_gone(),
+            None => false,
+        };
+        if is_gone && let Some(connection) = self.slab.try_remove(key) {
+            self.held = self.held.saturating_sub(connection.held());
+        }
+    }
+
+    /// Moves one on.
+    fn move_one(&mut self, key: usize, now: u64) -> Progress {
+        let Some(connection) = self.slab.get_mut(key) else {
+            return Progress::Waits;
+        };
+        let before = connection.held();
+        let may_read = self.limits.may_read(self.held, before);
+        let progress = connection.pump(self.scratch.as_mut_slice(), may_read, now);
+        let after = connection.held();
+        self.held = self.held.saturating_sub(before).saturating_add(after);
+        progress
+    }
+
+    /// Moves one on, hands on what it asks for, and forgets it if it is gone.
+    fn pump(&mut self, key: usize, now: u64) {
+        match self.move_one(key, now) {
+            Progress::Waits => {}
+            Progress::Goes => self.keep_ready(key),
+            Progress::Work(work) if self.is_refused(&work) => {
+                let outcome = match busy(self.alloc) {
+                    Ok(reply) => Outcome::Reply(reply),
+                    Err(_) => Outcome::Nothing,
+                };
+                self.take_answer(key, outcome);
+                self.keep_ready(key);
+            }
+            Progress::Work(work) => self.put(Item {
+                key,
+                came: now,
+                work,
+            }),
+        }
+        self.forget(key);
+    }
+
+    /// Notes that one is to be moved on again, once. There is room for each.
+    fn keep_ready(&mut self, key: usize) {
+        let Some(connection) = self.slab.get_mut(key) else {
+            return;
+        };
+        if !connection.set_queued(true) && self.ready.push_back(key).is_err() {
+            connection.close();
+        }
+    }
+
+    /// Moves on those that could be moved on at once.
+    pub fn go_on(&mut self, now: u64) {
+        for _ in 0..self.ready.len() {
+            let Some(key) = self.ready.pop_front() else {
+                return;
+            };
+            if let Some(connection) = self.slab.get_mut(key) {
+                connection.set_queued(false);
+            }
+            self.pump(key, now);
+        }
+    }
+
+    /// Goes on with the one whose socket is ready for this, and whose other side was seen to have
+    /// ended or not.
+    pub fn ready(
+        &mut self,
+        key: usize,
+        is_readable: bool,
+        is_writable: bool,
+        is_ending: bool,
+        now: u64,
+    ) {
+        if let Some(connection) = self.slab.get_mut(key) {
+            connection.note(is_readable, is_writable, is_ending);
+        }
+        self.pump(key, now);
+    }
+
+    /// Goes on with the one whose item came to this.
+    pub fn answer(&mut self, key: usize, outcome: Outcome, now: u64) {
+        self.take_answer(key, outcome);
+        self.pump(key, now);
+    }
+
+    /// Closes one whose time is over, and says whether there is anything to do for it.
+    fn is_due(&mut self, key: usize, now: u64) -> bool {
+        let Some(connection) = self.slab.get_mut(key) else {
+            return false;
+        };
+        if connection.is_late(&self.limits, now) || connection.is_left() {
+            connection.close();
+            return true;
+        }
+        connection.is_held_up()
+    }
+
+    /// Lets those go whose time is over, and goes on with those that had to wait for memory. The cost
+    /// is linear in the connections.
+    pub fn sweep(&mut self, now: u64) {
+        for key in 0..self.slab.capacity() {
+            if self.is_due(key, now) {
+                self.pump(key, now);
+            }
+        }
+    }
+
+    /// Lets one go for a new one, if as many are there as may be, and says whether there is room: the
+    /// one that was idle longest, else the one whose request takes longest. The cost is linear in the
+    /// connections.
+    pub fn make_room(&mut self, now: u64) -> bool
+        ensures { OnTrue result (count_of self.new < most_of self.new) }
+    {
+        if self.slab.len() < self.limits.connections {
+            return true;
+        }
+        let mut first = None;
+        for key in 0..self.slab.capacity() {
+            if let Some(connection) = self.slab.get(key) {
+                first = first_to_go(first, connection.candidate(key, now));
+            }
+        }
+        let Some(candidate) = first else {
+            return false;
+        };
+        if let Some(connection) = self.slab.get_mut(candidate.key) {
+            connection.close();
+        }
+        self.forget(candidate.key);
+        self.slab.len() < self.limits.connections
+    }
+}

@@ -1,0 +1,45 @@
+//! One thread that owns all sockets of a node, and serves them as they get ready.
+//!
+//! ```text
+//!             ┌── Poll: which sockets can be read or written, and a waker
+//! Reactor ────┤
+//!   │         └── Connections: a Connection for each socket, by its key
+//!   │ items, each with the key of its connection              ▲ answers, by key
+//!   ▼                                                         │
+//! Queues: writes, and pieces of lines ──> whoever keeps ──────┤
+//!         other requests ───────────────> whoever reads ──────┘
+//! ```
+//!
+//! A connection has at most one item out, and keeps its key until that is answered. So a queue has
+//! at most as many items as there may be connections, and an answer finds the connection of its
+//! item without a number of its own. A slow client costs the bytes that it sent; one that takes too
+//! long is let go ([`Stage`], [`Limits`]), and the one that was idle longest where a new one needs
+//! its place. Where a queue is behind, a request is answered 503 at once.
+//!
+//! [`Limits`], [`Stage`] and [`Watch`] are functions of moments and counts, with contracts. Of
+//! sockets and threads nothing is known, so what serves them is proved to be safe, and that a
+//! connection gives an item only where none is out.
+#![tactic(auto)]
+
+mod acceptor;
+mod connection;
+mod connections;
+mod item;
+mod limits;
+mod protocol;
+mod queue;
+mod queues;
+mod reactor;
+mod socket;
+mod watch;
+
+pub use connection::Connection;
+pub use connections::{Asked, Connections};
+pub use item::{Answer, Item, Outcome, Work};
+pub use limits::Limits;
+pub use protocol::Protocol;
+pub use queue::Queue;
+pub use queues::Queues;
+pub use reactor::Reactor;
+pub use socket::Socket;
+pub use watch::{Candidate, Stage, Watch};

@@ -1,0 +1,70 @@
+//! What a reactor shares with those who answer.
+
+use crate::item::Answer;
+use crate::queue::Queue;
+use mio::Waker;
+use std::alloc::{AllocError, Global};
+use std::mem;
+use std::sync::atomic::{AtomicBool, Ordering};
+use std::sync::{Mutex, Wait};
+
+/// What a reactor shares with those who answer.
+#[derive(Drop)]
+pub struct Queues {
+    /// What whoever keeps is asked: requests to write, and pieces of lines.
+    pub writes: Queue,
+    /// What whoever reads is asked: other requests.
+    pub fetches: Queue,
+    answers: Mutex<Vec<Answer>>,
+    waker: Waker,
+    is_halted: AtomicBool,
+}
+
+impl Queues {
+    /// Queues for this many connections, whose reactor is woken by this waker.
+    pub(crate) fn new(
+        alloc: Global,
+        connections: usize,
+        waker: Waker,
+    ) -> Result<Queues, AllocError> {
+        Ok(Queues {
+            writes: Queue::new(alloc, connections)?,
+            fetches: Queue::new(alloc, connections)?,
+            answers: Mutex::new(Vec::with_capacity(alloc, connections)?),
+            waker,
+            is_halted: AtomicBool::new(false),
+        })
+    }
+
+    /// Gives an answer back, and wakes the reactor if it is the first that waits there.
+    pub fn answer<R: Wait>(&self, rt: &R, answer: Answer) {
+        let is_first = {
+            let mut answers = self.answers.lock(rt);
+            let is_first = answers.is_empty();
+            // There is room for an answer to each connection.
+            let _put = answers.push(answer);
+            is_first
+        };
+        if is_first {
+            // A reactor that isn't woken looks within a second.
+            let _woken = self.waker.wake();
+        }
+    }
+
+    /// Takes all answers, in exchange for a list that has none.
+    pub(crate) fn exchange_answers<R: Wait>(&self, rt: &R, none: &mut Vec<Answer>) {
+        let mut answers = self.answers.lock(rt);
+        mem::swap(&mut *answers, none);
+    }
+
+    /// Ends the reactor, and those who answer.
+    pub fn halt(&self) {
+        self.is_halted.store(true, Ordering::SeqCst);
+        let _woken = self.waker.wake();
+    }
+
+    /// Whether they are to end.
+    pub fn is_halted(&self) -> bool {
+        self.is_halted.load(Ordering::SeqCst)
+    }
+}
