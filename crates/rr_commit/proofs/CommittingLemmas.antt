@@ -1,0 +1,226 @@
+-- Records that are committed batch by batch.
+use Rattle.std.proofs.Common.{◌≡◌, ◌≢◌, ◌⊎◌, inl, inr, ℕ, suc, ◌+◌, ◌-◌, ◌<◌, ◌≤◌, min, Bool, true, false, true≢false, List, [], ◌∷◌, ◌++◌, length, map, append-nil, subst, None, refl, sym, ap, ◌∙◌, append_assoc, arith, Option}
+use Rattle.std.specs.Prelude.{◌^◌, Err, IfErr, MatchBool, Ok, Result, nat_lt}
+use Rattle.std.specs.List.{AllByRecursion}
+use Rattle.std.specs.FinMap.{entries}
+use Rattle.std.proofs.lemmas.Bool.Decides.{nat_tests}
+use Rattle.rr_replica.proofs.Counted.{take_all}
+use Rattle.rr_cells.specs.CellBounds.{NamedCell}
+use Rattle.rr_cells.specs.Joins.{join_cells}
+use Rattle.rr_changes.specs.declared.changed_series.ChangedSeries.{ChangedSeries}
+use Rattle.rr_changes.specs.Changes.{changes_among, next_of}
+use Rattle.rr_desk.specs.KeeperState.{KeeperState, cells_of, written_cells}
+use Rattle.rr_desk.specs.Written.{CoverChanges}
+use Rattle.rr_journal.specs.declared.raw.RawRecord.{RawRecord}
+use Rattle.rr_journal.specs.declared.raw.TheConstants.{MAX_BODY_LEN}
+use Rattle.rr_journal.specs.declared.step.TheConstants.{MAX_UNSYNCED}
+use Rattle.std.specs.Io.KnownBytes.{append_known}
+use Rattle.rr_journal.specs.declared.committing.CommitFault.{CommitFault}
+use Rattle.rr_journal.specs.declared.committing.CommitFault.TheVariants.{NotWritten, NotSynced}
+use Rattle.rr_journal.specs.declared.cursor.Cursor.{Cursor}
+use Rattle.rr_journal.specs.Cursor.{behind_all, moved_by}
+use Rattle.rr_journal.specs.Keeping.{Commits, Committed, Grows}
+use Rattle.rr_journal.specs.Text.{Raw, raw_of, after, as_first, batch_of, chain, record_len, record_text, records_len, records_text}
+use Rattle.rr_journal.proofs.KeepingLemmas.{append_none, append_twice}
+use Rattle.rr_commit.specs.Committing.{AreMarked, CommitsAll, CommitsChanges, CommitsSome, IsCommitted}
+use Rattle.rr_commit.specs.Fault.{of_commit}
+use Rattle.rr_commit.specs.declared.fault.ChangesFault.TheVariants as changes
+use Rattle.rr_commit.specs.Records.{AreRecordsOf}
+
+-- ---- one record
+
+-- one record, or none, may be written between two syncs
+pub few_of_one : (rs : List RawRecord) → length rs < 2
+    → AllByRecursion (λ raw. length raw.body.items ≤ MAX_BODY_LEN) rs → records_len (map raw_of rs) ≤ MAX_UNSYNCED
+few_of_one [] lt fit = omega arith
+few_of_one (r ∷ []) lt fit = let one = fit.0 in omega (arith, one)
+few_of_one (r ∷ s ∷ rs) lt fit = absurd (omega (arith, lt))
+
+-- whatever refused it
+pub if_refused : {T E : Type 0} {P : E → Type 0} (result : Result T E) → ((fault : E) → P fault) → IfErr result P
+if_refused (Ok done) all = tt
+if_refused (Err fault) all = all fault
+
+-- ---- records that are marked
+
+marked_same : (rs : List Raw) → AreMarked rs rs
+marked_same [] = tt
+marked_same (r ∷ rs) = (inl refl, marked_same rs)
+
+batch_marked : (rs : List Raw) → AreMarked rs (batch_of rs)
+batch_marked [] = tt
+batch_marked (r ∷ rs) = (inr refl, marked_same rs)
+
+marked_append : (rs qs ws vs : List Raw) → AreMarked rs ws → AreMarked qs vs → AreMarked (rs ++ qs) (ws ++ vs)
+marked_append [] qs [] vs a b = b
+marked_append [] qs (w ∷ ws) vs a b = absurd a
+marked_append (r ∷ rs) qs [] vs a b = absurd a
+marked_append (r ∷ rs) qs (w ∷ ws) vs a b = (a.0, marked_append rs qs ws vs a.1 b)
+
+-- ---- records one after the other
+
+text_append : (before : List ℕ) (rs qs : List Raw)
+    → records_text before (rs ++ qs) ≡ records_text before rs ++ records_text (chain before rs) qs
+unfolding records_text
+text_append before [] qs = refl
+text_append before (r ∷ rs) qs =
+    ap (λ l. record_text before r ++ l) (text_append (after before r) rs qs)
+    ∙ sym (append_assoc (record_text before r) (records_text (after before r) rs)
+    (records_text (chain (after before r) rs) qs))
+
+chain_append : (before : List ℕ) (rs qs : List Raw) → chain before (rs ++ qs) ≡ chain (chain before rs) qs
+chain_append before [] qs = refl
+chain_append before (r ∷ rs) qs = chain_append (after before r) rs qs
+
+len_append : (rs qs : List Raw) → records_len (rs ++ qs) ≡ records_len rs + records_len qs
+len_append [] qs = omega arith
+len_append (r ∷ rs) qs = let rest = len_append rs qs in omega (arith, rest)
+
+moved_twice : (a b o : ℕ) → moved_by b (moved_by a o) ≡ moved_by (a + b) o
+moved_twice a b o = omega arith
+
+behind_append : (c : Cursor) (rs qs : List Raw) → behind_all c (rs ++ qs) ≡ behind_all (behind_all c rs) qs
+behind_append c rs qs =
+    let offset = ap (λ n. moved_by n c.offset) (len_append rs qs) ∙ sym (moved_twice (records_len rs) (records_len qs) c.offset) in
+    λ i. record { id = c.id; offset = offset i; digest = chain_append c.digest rs qs i }
+
+-- ---- batches one after the other
+
+committed_twice : (old mid new half text : Option (List ℕ)) (before between cursor : Cursor) (rs qs : List Raw)
+    → Committed old mid half before between rs → Committed mid new text between cursor qs
+    → Committed old new text before cursor (rs ++ qs)
+committed_twice old mid new half text before between cursor rs qs a b = record {
+  synced = b.synced ∙ (λ i. append_known (a.synced i) (records_text ((a.moved i).digest) qs))
+      ∙ append_twice old (records_text before.digest rs) (records_text (chain before.digest rs) qs)
+      ∙ ap (append_known old) (sym (text_append before.digest rs qs));
+  nothing_more = b.nothing_more;
+  moved = b.moved ∙ ap (λ (c : Cursor). behind_all c qs) a.moved ∙ sym (behind_append before rs qs);
+}
+
+pub is_committed_twice : (old mid new half text : Option (List ℕ)) (before between cursor : Cursor) (rs qs : List Raw)
+    → IsCommitted rs old mid half before between → IsCommitted qs mid new text between cursor
+    → IsCommitted (rs ++ qs) old new text before cursor
+is_committed_twice old mid new half text before between cursor rs qs a b = record {
+  records = a.records ++ b.records;
+  marked = marked_append rs qs a.records b.records a.marked b.marked;
+  committed = committed_twice old mid new half text before between cursor a.records b.records a.committed b.committed;
+}
+
+-- nothing was committed
+pub nothing_committed : (k text : Option (List ℕ)) (c : Cursor) → c.offset < 2 ^ 64 → text ≡ k → Committed k k text c c []
+unfolding records_text
+nothing_committed k text c lt same = record {
+  synced = sym (append_none k);
+  nothing_more = same;
+  moved = λ i. record { id = c.id; offset = moved_none c.offset lt i; digest = c.digest };
+}
+  where
+    moved_none : (o : ℕ) → o < 2 ^ 64 → o ≡ moved_by 0 o
+    moved_none o lt = omega (arith, lt)
+
+-- a batch
+pub one_batch : (rs : List Raw) (old new text : Option (List ℕ)) (before cursor : Cursor)
+    (result : Result (Unit {0}) CommitFault) → before.offset < 2 ^ 64
+    → Commits old new text before cursor (batch_of rs) result → CommitsAll rs old new text before cursor result
+unfolding records_text
+one_batch rs old new text before cursor (Ok done) fits is =
+    record { records = batch_of rs; marked = batch_marked rs; committed = is }
+one_batch rs old new text before cursor (Err NotWritten) fits is = (
+  [],
+  rs,
+  refl,
+  record {
+    records = [];
+    marked = tt;
+    committed = record {
+      synced = is.synced ∙ sym (append_none old);
+      nothing_more = is.nothing_more ∙ sym is.synced;
+      moved = is.stays ∙ stays before fits;
+    };
+  },
+)
+  where
+    same : (o : ℕ) → o < 2 ^ 64 → o ≡ moved_by 0 o
+    same o lt = omega (arith, lt)
+
+    stays : (c : Cursor) → c.offset < 2 ^ 64 → c ≡ behind_all c []
+    stays c lt = λ i. record { id = c.id; offset = same c.offset lt i; digest = c.digest }
+one_batch rs old new text before cursor (Err NotSynced) fits is = is.0
+
+-- the first half failed
+pub first_failed : (rs qs : List Raw) (old new text : Option (List ℕ)) (before cursor : Cursor) (fault : CommitFault)
+    → CommitsAll rs old new text before cursor (Err fault) → CommitsAll (rs ++ qs) old new text before cursor (Err fault)
+first_failed rs qs old new text before cursor NotWritten is =
+    (is.0, is.1 ++ qs, sym (append_assoc is.0 is.1 qs) ∙ ap (λ l. l ++ qs) is.2, is.3)
+first_failed rs qs old new text before cursor NotSynced is = is
+
+-- the first half was committed, and then the other one, or not
+pub then_others : (rs qs : List Raw) (old mid new half text : Option (List ℕ)) (before between cursor : Cursor)
+    (result : Result (Unit {0}) CommitFault) → IsCommitted rs old mid half before between
+    → CommitsAll qs mid new text between cursor result → CommitsAll (rs ++ qs) old new text before cursor result
+then_others rs qs old mid new half text before between cursor (Ok done) a b =
+    is_committed_twice old mid new half text before between cursor rs qs a b
+then_others rs qs old mid new half text before between cursor (Err NotWritten) a b = (
+  rs ++ b.0,
+  b.1,
+  append_assoc rs b.0 b.1 ∙ ap (λ l. rs ++ l) b.2,
+  is_committed_twice old mid new half text before between cursor rs b.0 a b.3,
+)
+then_others rs qs old mid new half text before between cursor (Err NotSynced) a b =
+    let more = records_text before.digest a.records in
+    (more ++ b.0, b.1 ∙ ap (λ (k : Option (List ℕ)). append_known k b.0) a.committed.synced ∙ append_twice old more b.0)
+
+-- ---- what stays
+
+-- whatever came of it, what was synced stays
+pub all_grow : (rs : List Raw) (old new text : Option (List ℕ)) (before cursor : Cursor)
+    (result : Result (Unit {0}) CommitFault) → CommitsAll rs old new text before cursor result → Grows old new
+all_grow rs old new text before cursor (Ok done) is = (records_text before.digest is.records, is.committed.synced)
+all_grow rs old new text before cursor (Err NotWritten) is =
+    (records_text before.digest (is.3.records), is.3.committed.synced)
+all_grow rs old new text before cursor (Err NotSynced) is = is
+
+pub grows_same : (k : Option (List ℕ)) → Grows k k
+grows_same k = ([], sym (append_none k))
+
+-- unless the journal couldn't be synced, some records were committed, or none
+pub some_committed : (rs : List Raw) (old new text : Option (List ℕ)) (before cursor : Cursor) (fault : CommitFault)
+    → CommitsAll rs old new text before cursor (Err fault) → of_commit fault ≢ changes.NotSynced
+    → CommitsSome old new text before cursor
+some_committed rs old new text before cursor NotWritten is other = (is.3.records, is.3.committed)
+some_committed rs old new text before cursor NotSynced is other = absurd (other refl)
+
+-- ---- a keeper's changes
+
+-- the whole list of changes is one batch
+pub one_walk : (k : KeeperState) (series : List ChangedSeries) → CoverChanges k series
+    → join_cells k.schema (written_cells k) (changes_among k.schema series (entries (cells_of k))) ≡ cells_of k
+one_walk k series cover =
+    let es = changes_among k.schema series (entries (cells_of k)) in
+    let limit = suc (length es) in
+    let all : es ≡ next_of limit None es = sym (take_all es limit (omega arith)) in
+    ap (join_cells k.schema (written_cells k)) (sym (append-nil es))
+    ∙ cover.makes limit (es ∷ []) (all, shorter _ _ (nat_lt (length es) limit) (less (length es)) refl)
+  where
+    less : (n : ℕ) → nat_lt n (suc n) ≡ true
+    less n = grind (arith, nat_tests)
+
+    shorter : (P Q : Type 0) (b : Bool) → b ≡ true → P → MatchBool b P Q
+    shorter P Q true e p = p
+    shorter P Q false e p = absurd (true≢false (sym e))
+
+pub changes_committed : (k : KeeperState) (series : List ChangedSeries) (raws : List RawRecord)
+    (old new text : Option (List ℕ)) (before cursor : Cursor) → CoverChanges k series
+    → AreRecordsOf (changes_among k.schema series (entries (cells_of k))) raws
+    → IsCommitted (map raw_of raws) old new text before cursor → CommitsChanges k old new text before cursor
+changes_committed k series raws old new text before cursor cover of is = record {
+  records = is.records;
+  cells = changes_among k.schema series (entries (cells_of k));
+  of = record {
+    meanings = of.meanings;
+    marked = subst (λ rs. AreMarked rs is.records) of.text is.marked;
+    has = of.has;
+  };
+  committed = is.committed;
+  makes = one_walk k series cover;
+}

@@ -1,0 +1,3 @@
+pub mod GroupingLemmas
+pub mod RecordLemmas
+pub mod CommittingLemmas
