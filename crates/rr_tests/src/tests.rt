@@ -2,6 +2,7 @@ mod archives;
 mod asked;
 mod changes;
 mod clocks;
+mod commits;
 mod connections;
 mod cut;
 mod desk;
