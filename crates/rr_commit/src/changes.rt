@@ -50,7 +50,7 @@ fn push_next<A: Cells>(
 {
     let mut cells = keeper.changes(alloc, series, after, MAX_RECORD_CELLS)?;
     push_record(alloc, records, &cells)?;
-    if cells.len() <= MAX_RECORD_CELLS {
+    if cells.len() < MAX_RECORD_CELLS {
         return Ok(None);
     }
     Ok(cells.pop())
