@@ -1,6 +1,6 @@
 //! A keeper's changes in its journal.
 use super::journal::start;
-use rr_base::Counted;
+use rr_base::{Counted, Origin};
 use rr_commit::{ChangesFault, commit_changes};
 use rr_desk::{Keeper, open};
 use rr_fakes::replicas::{minutes, schema};
@@ -27,7 +27,8 @@ fn put_two(alloc: Global, keeper: &mut Keeper<PackedArchive>, time: i64) -> Opti
 /// How many cells a replica has by a replay of these records, why it ended, and behind how many bytes.
 fn replayed(alloc: Global, records: &[u8]) -> Option<(usize, Stop, u64)> {
     let schema = schema(alloc, 3).ok()?;
-    let mut replica: Replica<PackedArchive> = minutes(alloc, 9, 3).ok()?;
+    let origin = Origin::new(9).ok()?;
+    let mut replica: Replica<PackedArchive> = Replica::new(alloc, &schema, origin).ok()?;
     let mut found = Found::new(alloc);
     let mut place = start();
     let mut input = Counted::new(records);
@@ -68,21 +69,17 @@ fn committed(
     Some((cells, changed, stop, is_whole && offset == cursor.offset))
 }
 
-/// What comes of these of a keeper that was just opened.
-fn of_keeper<R: Wait, T>(
-    rt: &R,
-    alloc: Global,
-    answer: fn(Global, &mut Keeper<PackedArchive>) -> Option<T>,
-) -> Option<T> {
+/// What is read back of a keeper that was just opened.
+fn read_back<R: Wait>(rt: &R, alloc: Global) -> Option<(usize, usize, Stop, bool)> {
     let (mut keeper, _readers) = open(alloc, rt, minutes(alloc, 1, 3).ok()?, 1).ok()?;
-    let found = answer(alloc, &mut keeper);
+    let found = committed(alloc, &mut keeper);
     keeper.close(rt);
     found
 }
 
 #[test]
 fn what_a_keeper_commits_is_read_back(rt: HostRuntime) {
-    let found = of_keeper(&rt, rt.alloc(), committed);
+    let found = read_back(&rt, rt.alloc());
     assert_eq!(rt; found, Some((4, 0, Stop::End, true)));
 }
 
@@ -100,8 +97,16 @@ fn refused(
     Some((fault, cursor, changed))
 }
 
+/// What is refused of a keeper that was just opened.
+fn not_written<R: Wait>(rt: &R, alloc: Global) -> Option<(Option<ChangesFault>, Cursor, usize)> {
+    let (mut keeper, _readers) = open(alloc, rt, minutes(alloc, 1, 3).ok()?, 1).ok()?;
+    let found = refused(alloc, &mut keeper);
+    keeper.close(rt);
+    found
+}
+
 #[test]
 fn what_is_not_written_stays_to_be_committed(rt: HostRuntime) {
-    let found = of_keeper(&rt, rt.alloc(), refused);
+    let found = not_written(&rt, rt.alloc());
     assert_eq!(rt; found, Some((Some(ChangesFault::NotWritten), start(), 2)));
 }

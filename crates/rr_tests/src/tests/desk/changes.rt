@@ -65,6 +65,18 @@ fn bring_all(
     None
 }
 
+/// Joins the first cell of a copy into its keeper again.
+fn join_back(keeper: &mut Keeper<PackedArchive>, copy: &Replica<PackedArchive>) -> Option<()> {
+    let Some(cell) = copy.cell_at(0) else {
+        return None;
+    };
+    let cell = cell.to_cell().ok()?;
+    if !cell.is_of(keeper.schema()) {
+        return None;
+    }
+    keeper.join_cell(&cell).ok()
+}
+
 /// How many changes three samples of two series make; how many there are of a cell that is joined
 /// back, and of a sample more; and how many cells a reader then gives.
 fn counts<R: Wait>(
@@ -81,8 +93,7 @@ fn counts<R: Wait>(
     keeper.put(&second, 0, 6).ok()?;
     keeper.put(&second, MINUTE, 7).ok()?;
     let new = bring_changes(alloc, keeper, copy)?;
-    let held = copy.cell_at(0)?.to_cell().ok()?;
-    keeper.join_cell(&held).ok()?;
+    join_back(keeper, copy)?;
     let none = bring_changes(alloc, keeper, copy)?;
     keeper.put(&second, MINUTE, 8).ok()?;
     let later = bring_changes(alloc, keeper, copy)?;
