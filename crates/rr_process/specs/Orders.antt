@@ -8,8 +8,8 @@ use Rattle.rr_process.specs.Ending.{ending_of_lines}
 use Rattle.rr_process.specs.Report.{refused_count, report_of}
 use Rattle.rr_words.specs.Words.{Asked, sim, check_lines, serve, journal}
 
--- a script prints what the sample model prints for it, and lines print their report; a node prints nothing, and what is printed
--- of a directory isn't of the input
+-- a script prints what the sample model prints for it, and lines print their report; a node prints nothing, and what is
+-- printed of a directory isn't of the input
 abbrev pub printed_for : Asked → List ℕ → List ℕ
 printed_for (sim file) input = output_of sample_model input
 printed_for (check_lines precision now) input = report_of precision now input

@@ -13,9 +13,9 @@
 //! written is a prefix of that wherever a run ends. Streams are counted, so that one is blamed only
 //! where a call of it failed ([`ToolFault`]).
 //!
-//! A run ends with status 0 where it is done, 1 where lines or a directory were refused, 2 where the command line
-//! is, or what a node is told to begin with, and 3 where reading or writing failed, an address was
-//! bad or memory ran out ([`Ending`]).
+//! A run ends with status 0 where it is done, 1 where lines or a directory were refused, 2 where the
+//! command line is, or what a node is told to begin with, and 3 where reading or writing failed, an
+//! address was bad or memory ran out ([`Ending`]).
 #![tactic(auto)]
 
 mod check;
