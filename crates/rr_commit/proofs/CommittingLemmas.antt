@@ -1,11 +1,10 @@
 -- Records that are committed batch by batch.
-use Rattle.std.proofs.Common.{◌≡◌, ◌≢◌, ◌⊎◌, inl, inr, ℕ, suc, ◌+◌, ◌-◌, ◌<◌, ◌≤◌, min, Bool, true, false, true≢false, List, [], ◌∷◌, ◌++◌, length, map, append-nil, subst, None, refl, sym, ap, ◌∙◌, append_assoc, arith, Option}
+use Rattle.std.proofs.Common.{◌≡◌, ◌≢◌, inl, inr, ℕ, suc, ◌+◌, ◌-◌, ◌<◌, ◌≤◌, Bool, true, false, true≢false, List, [], ◌∷◌, ◌++◌, length, map, append-nil, subst, None, refl, sym, ap, ◌∙◌, append_assoc, arith, Option}
 use Rattle.std.specs.Prelude.{◌^◌, Err, IfErr, MatchBool, Ok, Result, nat_lt}
 use Rattle.std.specs.List.{AllByRecursion}
 use Rattle.std.specs.FinMap.{entries}
 use Rattle.std.proofs.lemmas.Bool.Decides.{nat_tests}
 use Rattle.rr_replica.proofs.Counted.{take_all}
-use Rattle.rr_cells.specs.CellBounds.{NamedCell}
 use Rattle.rr_cells.specs.Joins.{join_cells}
 use Rattle.rr_changes.specs.declared.changed_series.ChangedSeries.{ChangedSeries}
 use Rattle.rr_changes.specs.Changes.{changes_among, next_of}
@@ -19,12 +18,10 @@ use Rattle.rr_journal.specs.declared.committing.CommitFault.{CommitFault}
 use Rattle.rr_journal.specs.declared.committing.CommitFault.TheVariants.{NotWritten, NotSynced}
 use Rattle.rr_journal.specs.declared.cursor.Cursor.{Cursor}
 use Rattle.rr_journal.specs.Cursor.{behind_all, moved_by}
-use Rattle.rr_journal.specs.Keeping.{Commits, Committed, Grows}
-use Rattle.rr_journal.specs.Text.{Raw, raw_of, after, as_first, batch_of, chain, record_len, record_text, records_len, records_text}
+use Rattle.rr_journal.specs.Keeping.{Commits, Committed}
+use Rattle.rr_journal.specs.Text.{Raw, raw_of, after, batch_of, chain, record_text, records_len, records_text}
 use Rattle.rr_journal.proofs.KeepingLemmas.{append_none, append_twice}
-use Rattle.rr_commit.specs.Committing.{AreMarked, CommitsAll, CommitsChanges, CommitsSome, IsCommitted}
-use Rattle.rr_commit.specs.Fault.{of_commit}
-use Rattle.rr_commit.specs.declared.fault.ChangesFault.TheVariants as changes
+use Rattle.rr_commit.specs.Committing.{AreMarked, CommitsAll, CommitsChanges, IsCommitted}
 use Rattle.rr_commit.specs.Records.{AreRecordsOf}
 
 -- ---- one record
@@ -147,13 +144,6 @@ one_batch rs old new text before cursor (Err NotWritten) fits is = (
     stays c lt = λ i. record { id = c.id; offset = same c.offset lt i; digest = c.digest }
 one_batch rs old new text before cursor (Err NotSynced) fits is = is.0
 
--- the first half failed
-pub first_failed : (rs qs : List Raw) (old new text : Option (List ℕ)) (before cursor : Cursor) (fault : CommitFault)
-    → CommitsAll rs old new text before cursor (Err fault) → CommitsAll (rs ++ qs) old new text before cursor (Err fault)
-first_failed rs qs old new text before cursor NotWritten is =
-    (is.0, is.1 ++ qs, sym (append_assoc is.0 is.1 qs) ∙ ap (λ l. l ++ qs) is.2, is.3)
-first_failed rs qs old new text before cursor NotSynced is = is
-
 -- the first half was committed, and then the other one, or not
 pub then_others : (rs qs : List Raw) (old mid new half text : Option (List ℕ)) (before between cursor : Cursor)
     (result : Result (Unit {0}) CommitFault) → IsCommitted rs old mid half before between
@@ -169,26 +159,6 @@ then_others rs qs old mid new half text before between cursor (Err NotWritten) a
 then_others rs qs old mid new half text before between cursor (Err NotSynced) a b =
     let more = records_text before.digest a.records in
     (more ++ b.0, b.1 ∙ ap (λ (k : Option (List ℕ)). append_known k b.0) a.committed.synced ∙ append_twice old more b.0)
-
--- ---- what stays
-
--- whatever came of it, what was synced stays
-pub all_grow : (rs : List Raw) (old new text : Option (List ℕ)) (before cursor : Cursor)
-    (result : Result (Unit {0}) CommitFault) → CommitsAll rs old new text before cursor result → Grows old new
-all_grow rs old new text before cursor (Ok done) is = (records_text before.digest is.records, is.committed.synced)
-all_grow rs old new text before cursor (Err NotWritten) is =
-    (records_text before.digest (is.3.records), is.3.committed.synced)
-all_grow rs old new text before cursor (Err NotSynced) is = is
-
-pub grows_same : (k : Option (List ℕ)) → Grows k k
-grows_same k = ([], sym (append_none k))
-
--- unless the journal couldn't be synced, some records were committed, or none
-pub some_committed : (rs : List Raw) (old new text : Option (List ℕ)) (before cursor : Cursor) (fault : CommitFault)
-    → CommitsAll rs old new text before cursor (Err fault) → of_commit fault ≢ changes.NotSynced
-    → CommitsSome old new text before cursor
-some_committed rs old new text before cursor NotWritten is other = (is.3.records, is.3.committed)
-some_committed rs old new text before cursor NotSynced is other = absurd (other refl)
 
 -- ---- a keeper's changes
 

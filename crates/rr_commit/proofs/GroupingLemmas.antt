@@ -1,6 +1,6 @@
 -- Cells in groups of one key and archive.
-use Rattle.std.proofs.Common.{◌≡◌, ℕ, ◌+◌, ◌*◌, ◌<◌, ◌≤◌, length, arith, ⊎_elim, List, [], ◌∷◌, ◌++◌, map, All, refl, sym, ap, ◌∙◌, append_assoc, append-nil}
-use Rattle.std.specs.Prelude.{Err, IfOk, Ok, Result}
+use Rattle.std.proofs.Common.{◌≡◌, ◌+◌, ◌*◌, ◌<◌, ◌≤◌, length, arith, ⊎_elim, List, [], ◌∷◌, ◌++◌, map, All, refl, sym, ap, ◌∙◌, append_assoc, append-nil}
+use Rattle.std.specs.Prelude.{Ok}
 use Rattle.std.specs.List.{AllByRecursion, flat_map}
 use Rattle.std.proofs.lemmas.List.Elements.{recursion_from_All}
 use Rattle.std.proofs.lemmas.Grind.{flat_map-append}
@@ -35,13 +35,6 @@ pub group_has : (first : Cell) (cells : List Cell) (g : Group) → All (IsLike f
 group_has first cells g all key archive packed =
     (λ i. map (named_by (key i) (archive i)) (cells_read (packed i >>= alone)))
     ∙ named_alike first cells (recursion_from_All (IsLike first) cells all)
-
-pub group_if_made : {E : Type 0} (r : Result Group E) (first : Cell) (cells : List Cell) → All (IsLike first) cells
-    → IfOk r (λ g. g.key ≡ first.key) → IfOk r (λ g. g.archive ≡ first.archive)
-    → IfOk r (λ g. packed_at g.packed.items ≡ Ok (map slot_entry cells, []))
-    → IfOk r (λ g. group_cells (packed_cells g) ≡ map owned_cell cells)
-group_if_made (Ok g) first cells all key archive packed = group_has first cells g all key archive packed
-group_if_made (Err fault) first cells all key archive packed = tt
 
 -- a group more
 pub one_grouped : (groups : List Group) (g : Group) (run left cells : List Cell)

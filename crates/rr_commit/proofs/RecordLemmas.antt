@@ -1,6 +1,6 @@
 -- Records of cells, one after the other.
 use Rattle.std.proofs.Common.{◌≡◌, T, ℕ, suc, ◌≤◌, ◌<◌, arith, List, [], ◌∷◌, ◌++◌, map, length, refl, sym, ap, ◌∙◌, append_assoc, append-nil, subst, true≢false, Option, None, Some}
-use Rattle.std.specs.List.{AllByRecursion, flat_map}
+use Rattle.std.specs.List.{AllByRecursion}
 use Rattle.std.specs.Option.{option_map, option_to_list}
 use Rattle.std.specs.FinMap.{is_sorted}
 use Rattle.std.specs.Prelude.{IsSome}
@@ -100,20 +100,6 @@ fewer_left es old new last (Some next) adds =
     let parts = sym (length-append adds.0 (cells_after (Some (owned_cell next).0) es)) ∙ ap length adds.2 in
     let some = adds.3 in
     omega (arith, parts, some)
-
--- the first step
-pub walk_begun : (es : List NamedCell) (new : List RawRecord) (next : Option Cell)
-    → AddsNext es None (option_map (λ c. (owned_cell c).0) next) [] new → WalksOn es new next
-walk_begun es new None adds = record {
-  done = es;
-  of = records_added [] es [] new no_records adds;
-  whole = append-nil es;
-}
-walk_begun es new (Some next) adds = record {
-  done = adds.0;
-  of = records_added [] adds.0 [] new no_records adds.1;
-  whole = adds.2;
-}
 
 -- ---- a batch of changes
 

@@ -1,4 +1,4 @@
-use Rattle.std.proofs.Common.{rules, subst}
+use Rattle.std.proofs.Common.{subst}
 use Rattle.std.specs.FinMap.{entries}
 use Rattle.rr_changes.specs.Changes.{changes_among}
 use Rattle.rr_desk.specs.KeeperState.{cells_of}

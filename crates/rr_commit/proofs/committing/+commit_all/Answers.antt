@@ -1,6 +1,5 @@
-use Rattle.std.proofs.Common.{rules, ◌≡◌, ◌++◌, ◌∙◌, map, sym, ap, subst, take-append-drop, length, List}
+use Rattle.std.proofs.Common.{rules, ◌≡◌, ◌++◌, ◌∙◌, map, sym, ap, subst, take-append-drop, List}
 use Rattle.std.proofs.lemmas.List.{map-append}
-use Rattle.rr_journal.specs.declared.raw.RawRecord.{RawRecord}
 use Rattle.rr_journal.specs.Text.{Raw, raw_of}
 use Rattle.rr_commit.specs.Committing.{CommitsAll}
 use Rattle.rr_commit.proofs.CommittingLemmas.{few_of_one, one_batch, then_others}

@@ -1,4 +1,4 @@
-use Rattle.std.proofs.Common.{rules, ◌≡◌, [], refl, ap, ◌∙◌}
+use Rattle.std.proofs.Common.{[], refl, ap, ◌∙◌}
 use Rattle.std.specs.Prelude.{Ok}
 use Rattle.rr_commit.proofs.GroupingLemmas.{group_has}
 use Rattle.rr_commit.proofs.grouping.group_of.Goals as goal
