@@ -49,10 +49,6 @@ records_append es fs xs ys a b = record {
   fits = all_fit xs ys a.fits b.fits;
 }
 
--- no record is of no cell
-pub no_records : AreRecordsOf [] []
-no_records = record { meanings = []; text = refl; has = refl; fits = tt }
-
 -- one record
 pub one_record : (cells : List Cell) (raw : RawRecord) → IsRecordOf cells raw
     → AreRecordsOf (map owned_cell cells) (raw ∷ [])
