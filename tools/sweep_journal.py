@@ -10,8 +10,8 @@ has two files: the first is cut and changed alone, and with the second behind it
 `rr journal cells DIR` has to print what the model does: the cells, with status 0, or the line that refuses the
 directory, with status 1.
 
-Prints how many were tried, and ends with status 1 where one was read in another way. It takes about ten minutes on four
-cores.
+Prints how many were tried, and ends with status 1 where one was read in another way. Of 1,000 samples these are about
+230,000, each a run of the program.
 """
 
 import concurrent.futures

@@ -50,7 +50,7 @@ part_more n after es sorted = go n after (cells_after after es) refl
     go (suc n) after (x ∷ xs) e =
         ap (λ l. x ∷ l) (go n (Some x.0) xs (after_next after es x xs sorted e))
 
--- of the cells after a name so many were asked for, and fewer came: they are all
+-- where fewer cells after a name came than were asked for, these are all
 pub all_few : (limit : ℕ) (after : Option CellName) (es : List NamedCell)
     → nat_lt (length (next_of limit after es)) limit ≡ true → next_of limit after es ≡ cells_after after es
 all_few limit after es t =

@@ -80,7 +80,7 @@ pub update_makes_the_cells : UpdateMakesTheCells
 update_makes_the_cells s before m update is has since =
     update_joins s before m update since ∙ join_commutes s before m is ∙ has
 
--- the greater of what is there and of what is no greater is what is there
+-- joining what isn't greater changes nothing
 greater_there : (o : Option Contribution) (c : Contribution) → is_at_least o c ≡ true
     → greater contribution_cmp o (Some c) ≡ o
 greater_there None c h = absurd (true≢false (sym h))

@@ -39,7 +39,7 @@ CheckpointsMakeTheLast =
     → All (Contains (cells ++ written_cells writes)) es
     → join_cells s empty es ≡ last_cells m writes
 
--- ---- so many cells at a time, also less than a key has
+-- ---- a limited number of cells at a time, perhaps fewer than a key has
 
 -- so it is with the cells of a walk
 abbrev pub WalksBringAll : Type 0
@@ -64,7 +64,7 @@ WalksMakeTheLast =
     → All (Contains (walked None batches last ++ written_cells writes)) es
     → join_cells s empty es ≡ last_cells m writes
 
--- whoever reads so many cells at a time, until fewer come, reads a walk
+-- reading a fixed number of cells at a time, until fewer come, is a walk
 abbrev pub ReadsAreAWalk : Type 0
 ReadsAreAWalk =
     (limit : ℕ) (reads : List Read) (m : Cells) → AreReads limit None reads

@@ -35,7 +35,7 @@ AreOf key held cells = (n : CellName) (c : Contribution) → n.key ≡ key
 abbrev pub IsCheckpoint : List Cells → List NamedCell → Type 0
 IsCheckpoint moments cells = (key : List ℕ) → (held : Cells) × Contains moments held × AreOf key held cells
 
--- ---- so many cells at a time
+-- ---- a limited number of cells at a time
 
 -- a batch of a walk: at most how many cells it has, and what was held when it was read
 pub record Batch : Type 0 where
@@ -61,8 +61,8 @@ pub record Read : Type 0 where
   pub held : Cells
   pub cells : List NamedCell
 
--- what is read by one call after the other, each for at most so many cells after those of the call before, until fewer
--- come
+-- what is read by one call after another, each for at most a limited number of cells after those of the call before,
+-- until fewer come
 abbrev pub AreReads : ℕ → Option CellName → List Read → Type 0
 AreReads limit after [] = ⊥
 AreReads limit after (r ∷ reads) =

@@ -18,7 +18,7 @@ use Rattle.rr_cells.specs.ReplicaState.{ReplicaState}
 abbrev pub Holds : Layout → Cells → Cells → Type 0
 Holds s x m = join s x m ≡ x
 
--- whether what is at a name is no less than this
+-- whether what is at a name is at least this
 abbrev pub is_at_least : Option Contribution → Contribution → Bool
 is_at_least None c = false
 is_at_least (Some d) c = is_le (contribution_cmp c d)
