@@ -12,7 +12,8 @@ use Rattle.rr_config.specs.declared.fault.ConfigFault.{ConfigFault}
 use Rattle.rr_config.specs.declared.fault.ConfigFault.TheVariants.{BadCount}
 use Rattle.rr_config.specs.declared.http.TheConstants.{HTTP_SEATS, MAX_HTTP_SEATS}
 use Rattle.rr_config.specs.Addresses.{AddressesView, addresses_in}
-use Rattle.rr_config.specs.Config.{ConfigView, config_in, of_schema}
+use Rattle.rr_config.specs.Config.{ConfigView, config_in}
+use Rattle.rr_config.specs.Document.{of_schema}
 use Rattle.rr_config.specs.Habits.{HabitsView, habits_in}
 use Rattle.rr_config.specs.Http.{HttpView, address_in, durable_in, endless_address_of, http_in, seats_in, seats_of}
 use Rattle.rr_config.specs.Intake.{intake_in}
@@ -24,18 +25,18 @@ unfoldable pub OfAnswer : {A : Type 0} → (A → Type 0) → Result A ConfigFau
 OfAnswer P (Ok x) = P x
 OfAnswer P (Err fault) = Unit {0}
 
-last : {A : Type 0} (P : A → Type 0) (x : A) → P x → OfAnswer P (Ok x)
+pub last : {A : Type 0} (P : A → Type 0) (x : A) → P x → OfAnswer P (Ok x)
 unfolding OfAnswer
 last P x h = h
 
 -- what holds of each answer of the second step holds of the answer of both
-then : {A B : Type 0} (P : B → Type 0) (r : Result A ConfigFault) (next : A → Result B ConfigFault)
+pub then : {A B : Type 0} (P : B → Type 0) (r : Result A ConfigFault) (next : A → Result B ConfigFault)
     → ((x : A) → r ≡ Ok x → OfAnswer P (next x)) → OfAnswer P (r >>= next)
 unfolding OfAnswer
 then P (Ok x) next h = h x refl
 then P (Err fault) next h = tt
 
-kept : {A : Type 0} (P : A → Type 0) (fault : ConfigFault) (refused : Bool) (r : Result A ConfigFault)
+pub kept : {A : Type 0} (P : A → Type 0) (fault : ConfigFault) (refused : Bool) (r : Result A ConfigFault)
     → (refused ≡ false → OfAnswer P r) → OfAnswer P (unless fault refused r)
 unfolding OfAnswer
 kept P fault true r h = tt
@@ -45,13 +46,13 @@ pub holds : {A : Type 0} (P : A → Type 0) (r : Result A ConfigFault) (x : A) �
 unfolding OfAnswer
 holds P r x h e = subst (λ (q : Result _ ConfigFault). OfAnswer P q) e h
 
-of_missing : {A : Type 0} (P : A → Type 0) (default : A) (read : Data → Result A ConfigFault) (value : Option Data)
+pub of_missing : {A : Type 0} (P : A → Type 0) (default : A) (read : Data → Result A ConfigFault) (value : Option Data)
     → P default → ((v : Data) → OfAnswer P (read v)) → OfAnswer P (if_there default read value)
 unfolding OfAnswer
 of_missing P default read None missing there = missing
 of_missing P default read (Some v) missing there = there v
 
-of_needed : {A : Type 0} (P : A → Type 0) (read : Data → Result A ConfigFault) (value : Option Data)
+pub of_needed : {A : Type 0} (P : A → Type 0) (read : Data → Result A ConfigFault) (value : Option Data)
     → ((v : Data) → OfAnswer P (read v)) → OfAnswer P (needed read value)
 unfolding OfAnswer
 of_needed P read None there = tt
@@ -59,7 +60,7 @@ of_needed P read (Some v) there = there v
 
 -- ---- numbers
 
-between : (least most n : ℕ) → not (nat_le least n && nat_le n most) ≡ false → (least ≤ n) × (n ≤ most)
+pub between : (least most n : ℕ) → not (nat_le least n && nat_le n most) ≡ false → (least ≤ n) × (n ≤ most)
 between least most n e = by (nat_le least n) (nat_le n most) refl refl e
   where
     by : (above below : Bool) → nat_le least n ≡ above → nat_le n most ≡ below → not (above && below) ≡ false
@@ -87,7 +88,7 @@ not_above asked readers seats e is = by (nat_le (readers + seats) MAX_READERS) r
 
 -- ---- key by key
 
-waits : (value : Data) → OfAnswer IsWait (seconds_of value)
+pub waits : (value : Data) → OfAnswer IsWait (seconds_of value)
 waits value = then IsWait (count_of value) _ (λ n is. kept IsWait BadCount _ (Ok n)
     (λ e. last IsWait n (between 1 MAX_IDLE n e)))
 
@@ -142,12 +143,15 @@ address_holds table rounds visits =
     (λ value. then P (text_of value) _ (λ address is. kept P BadCount _ (Ok (Some address))
     (λ e. last P (Some address) (both_zero rounds visits e))))
 
-abbrev SomeSeat : ℕ → Type 0
-SomeSeat seats = 1 ≤ seats
+abbrev pub AreSeats : ℕ → Type 0
+AreSeats seats = (1 ≤ seats) × (seats ≤ MAX_HTTP_SEATS)
 
-seats_of_hold : (value : Data) → OfAnswer SomeSeat (seats_of value)
-seats_of_hold value = then SomeSeat (count_of value) _ (λ n is. kept SomeSeat BadCount _ (Ok n)
-    (λ e. last SomeSeat n (between 1 MAX_HTTP_SEATS n e).0))
+pub default_seats : AreSeats HTTP_SEATS
+default_seats = (omega arith, omega arith)
+
+pub seats_of_hold : (value : Data) → OfAnswer AreSeats (seats_of value)
+seats_of_hold value = then AreSeats (count_of value) _ (λ n is. kept AreSeats BadCount _ (Ok n)
+    (λ e. last AreSeats n (between 1 MAX_HTTP_SEATS n e)))
 
 abbrev HasSeats : Bool → ℕ → ℕ → Type 0
 HasSeats asked readers seats = (1 ≤ seats) × (asked ≡ true → readers + seats ≤ MAX_READERS)
@@ -155,10 +159,10 @@ HasSeats asked readers seats = (1 ≤ seats) × (asked ≡ true → readers + se
 seats_hold : (table : Members) (asked : Bool) (readers : ℕ) → OfAnswer (HasSeats asked readers) (seats_in table asked readers)
 seats_hold table asked readers =
     let P = HasSeats asked readers in
-    let some : 1 ≤ HTTP_SEATS = omega arith in
-    let first = of_missing SomeSeat HTTP_SEATS seats_of (get_member (codes "http_seats") table) some seats_of_hold in
+    let first = of_missing AreSeats HTTP_SEATS seats_of (get_member (codes "http_seats") table) default_seats
+    seats_of_hold in
     then P (if_there HTTP_SEATS seats_of (get_member (codes "http_seats") table)) _ (λ seats s. kept P BadCount _ (Ok seats)
-    (λ e. last P seats (holds SomeSeat _ seats first s, not_above asked readers seats e)))
+    (λ e. last P seats ((holds AreSeats _ seats first s).0, not_above asked readers seats e)))
 
 abbrev SuitsHttpOf : ℕ → ℕ → ℕ → Option HttpView → Type 0
 SuitsHttpOf rounds visits readers http =

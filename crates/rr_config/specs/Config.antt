@@ -1,17 +1,15 @@
 -- What the TOML text of a configuration says: the configuration, or the first fault, key by key.
-use Rattle.std.specs.Prelude.{ℕ, Bool, List, length, map, Option, None, Some, option_map, Result, Ok, Err}
+use Rattle.std.specs.Prelude.{ℕ, Bool, List, length, map, Option, option_map, Result, Ok}
 use Rattle.std.specs.String.{string_bytes}
 use Rattle.toml.specs.Data.{Members}
-use Rattle.rr_schema.specs.declared.fault.SchemaFault.{SchemaFault}
-use Rattle.rr_schema.specs.declared.fault.SchemaFault.TheVariants.{BadToml}
-use Rattle.rr_document.specs.Document.{layout_in, table_of}
+use Rattle.rr_document.specs.Document.{layout_in}
 use Rattle.rr_text.specs.Results.{◌>>=◌}
 use Rattle.rr_schema.specs.Schema.{Layout}
 use Rattle.rr_line.specs.declared.precision.Precision.{Precision}
 use Rattle.rr_config.specs.declared.config.Config.{Config}
 use Rattle.rr_config.specs.declared.fault.ConfigFault.{ConfigFault}
 use Rattle.rr_config.specs.Addresses.{addresses_in}
-use Rattle.rr_config.specs.Fault.{of_schema_fault}
+use Rattle.rr_config.specs.Document.{members_of, of_schema}
 use Rattle.rr_config.specs.Habits.{habits_in}
 use Rattle.rr_config.specs.Http.{HttpView, http_in, http_view}
 use Rattle.rr_config.specs.Intake.{intake_in}
@@ -49,11 +47,6 @@ config_view c = record {
   http = option_map http_view c.http;
 }
 
--- a step of a schema as one of the configuration
-abbrev pub of_schema : {A : Type 0} → Result A SchemaFault → Result A ConfigFault
-of_schema (Ok x) = Ok x
-of_schema (Err fault) = Err (of_schema_fault fault)
-
 -- the configuration of a table: the schema, and then the other keys, each through its faults; other keys are ignored
 unfoldable pub config_in : Members → Result ConfigView ConfigFault
 config_in table = do
@@ -80,8 +73,4 @@ config_in table = do
 
 -- the configuration of a text
 abbrev pub config_of : List ℕ → Result ConfigView ConfigFault
-config_of text = read (table_of text)
-  where
-    read : Option Members → Result ConfigView ConfigFault
-    read None = Err (of_schema_fault BadToml)
-    read (Some table) = config_in table
+config_of text = members_of text >>= config_in

@@ -1,5 +1,5 @@
 -- What a configuration says of HTTP.
-use Rattle.std.specs.Prelude.{ℕ, Bool, false, ◌+◌, ◌&&◌, ◌||◌, ◌==◌, not, nat_le, is_some, List, codes, Option, None, Some, option_map, Result, Ok, Err, if◌then◌else◌}
+use Rattle.std.specs.Prelude.{ℕ, Bool, false, ◌+◌, ◌&&◌, ◌==◌, not, nat_le, is_some, List, codes, Option, None, Some, option_map, Result, Ok}
 use Rattle.std.specs.String.{string_bytes}
 use Rattle.toml.specs.Data.{Data, Members, get_member}
 use Rattle.rr_text.specs.Results.{◌>>=◌, unless}

@@ -3,8 +3,11 @@ use Rattle.std.specs.Prelude.{◌≡◌, ℕ, ◌+◌, ◌≤◌, List, [], ◌�
 use Rattle.std.specs.List.{AllByRecursion}
 use Rattle.toml.specs.Data.{Members, get_member}
 use Rattle.rr_text.specs.declared.limits.TheConstants.{MAX_IDLE, MAX_READERS}
+use Rattle.rr_schema.specs.Origin.{IsOrigin}
+use Rattle.rr_config.specs.declared.http.TheConstants.{MAX_HTTP_SEATS}
 use Rattle.rr_config.specs.Config.{ConfigView, config_in}
 use Rattle.rr_config.specs.Http.{HttpView}
+use Rattle.rr_config.specs.Node.{NodeConfigView, node_config_in}
 
 -- from a second to a day
 abbrev pub IsWait : ℕ → Type 0
@@ -27,6 +30,19 @@ pub record IsWithinLimits (c : ConfigView) : Type 0 where
 abbrev pub ConfigsAreWithinLimits : Type 0
 ConfigsAreWithinLimits = (table : Members) (c : ConfigView) → config_in table ≡ Ok c → IsWithinLimits c
 
+-- a node has a range of origins, and threads that answer fetches
+pub record IsWithinNodeLimits (c : NodeConfigView) : Type 0 where
+  pub first : IsOrigin c.origins.first
+  pub last : IsOrigin c.origins.last
+  pub ordered : c.origins.first ≤ c.origins.last
+  pub idle : IsWait c.idle
+  pub some_reader : 1 ≤ c.readers
+  pub few_readers : c.readers ≤ MAX_HTTP_SEATS
+
+abbrev pub NodeConfigsAreWithinLimits : Type 0
+NodeConfigsAreWithinLimits =
+    (table : Members) (c : NodeConfigView) → node_config_in table ≡ Ok c → IsWithinNodeLimits c
+
 -- ---- the keys
 
 -- the keys of a configuration
@@ -41,3 +57,11 @@ AgreeAt keys t u = AllByRecursion (λ key. get_member key t ≡ get_member key u
 
 abbrev pub ConfigsAreOfTheirKeys : Type 0
 ConfigsAreOfTheirKeys = (t u : Members) → AgreeAt config_keys t u → config_in t ≡ config_in u
+
+-- the keys of a node's configuration
+abbrev pub node_config_keys : List (List ℕ)
+node_config_keys = codes "step" ∷ codes "archive" ∷ codes "http" ∷ codes "lines" ∷ codes "origins" ∷ codes "peers"
+    ∷ codes "lead" ∷ codes "precision" ∷ codes "idle" ∷ codes "readers" ∷ codes "quiet" ∷ []
+
+abbrev pub NodeConfigsAreOfTheirKeys : Type 0
+NodeConfigsAreOfTheirKeys = (t u : Members) → AgreeAt node_config_keys t u → node_config_in t ≡ node_config_in u

@@ -1,8 +1,11 @@
 pub mod Fault
+pub mod Document
+pub mod Origins
 pub mod Values
 pub mod Addresses
 pub mod Intake
 pub mod Habits
 pub mod Http
 pub mod Config
+pub mod Node
 pub mod Laws

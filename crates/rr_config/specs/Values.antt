@@ -1,12 +1,13 @@
 -- What the values of a configuration's keys are read as.
-use Rattle.std.specs.Prelude.{Bool, ℕ, ◌&&◌, nat_le, not, List, [], ◌∷◌, length, ℤ, pos, negsuc, Option, None, Some, Result, Ok, Err, ok_or}
+use Rattle.std.specs.Prelude.{Bool, true, ℕ, ◌&&◌, nat_le, not, is_some, List, [], ◌∷◌, length, ℤ, pos, negsuc, Option, None, Some, Result, Ok, Err, ok_or}
 use Rattle.toml.specs.Data.{Data, Items, no_items, item, as_bool, as_integer, as_str, as_array}
 use Rattle.rr_text.specs.Results.{◌>>=◌, unless}
-use Rattle.rr_text.specs.declared.limits.TheConstants.{MAX_IDLE, MAX_READERS}
+use Rattle.rr_text.specs.declared.limits.TheConstants.{MAX_IDLE, MAX_ORIGIN, MAX_READERS}
 use Rattle.rr_line.specs.declared.precision.Precision.{Precision}
 use Rattle.rr_line.specs.Precision.{precision_named}
 use Rattle.rr_config.specs.declared.fault.ConfigFault.{ConfigFault}
 use Rattle.rr_config.specs.declared.fault.ConfigFault.TheVariants.{MissingField, WrongKind, BadCount, BadPrecision}
+use Rattle.rr_config.specs.Origins.{RangeView}
 
 -- a key that must be there
 abbrev pub needed : {A : Type 0} → (Data → Result A ConfigFault) → Option Data → Result A ConfigFault
@@ -74,3 +75,32 @@ seconds_of value = do
 
 abbrev pub some_seconds_of : Data → Result (Option ℕ) ConfigFault
 some_seconds_of value = seconds_of value >>= λ n. Ok (Some n)
+
+-- a whole number from 1 to 65,535
+abbrev pub origin_of : Data → Result ℕ ConfigFault
+origin_of value = do
+  number ← count_of value
+  unless BadCount (not (nat_le 1 number && nat_le number MAX_ORIGIN)) (Ok number)
+
+-- two origins, of which the first isn't above the second
+abbrev pub range_between : Data → Data → Result RangeView ConfigFault
+range_between least greatest = do
+  first ← origin_of least
+  last ← origin_of greatest
+  unless BadCount (not (nat_le first last)) (Ok (record { first = first; last = last }))
+
+-- the range of two values, of no more and no fewer
+abbrev pub range_in : Items → Result RangeView ConfigFault
+range_in (item least (item greatest no_items)) = range_between least greatest
+range_in values = Err BadCount
+
+-- whether each of these values is a whole number
+abbrev pub are_whole : Items → Bool
+are_whole no_items = true
+are_whole (item value values) = is_some (as_integer value) && are_whole values
+
+-- an array of whole numbers, which are a range
+abbrev pub range_of : Data → Result RangeView ConfigFault
+range_of value = do
+  values ← of_kind (as_array value)
+  unless WrongKind (not (are_whole values)) (range_in values)

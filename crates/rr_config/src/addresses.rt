@@ -24,12 +24,12 @@ pub(crate) struct Addresses {
     pub(crate) peers: Vec<String>,
 }
 
-/// The address of lines.
-pub(crate) fn lines_in(alloc: Global, table: &Table) -> Result<String, ConfigFault>
+/// The address at a key that must be there.
+pub(crate) fn address_at(alloc: Global, table: &Table, key: &str) -> Result<String, ConfigFault>
     ensures { GivesUnless ConfigFault.Memory string_bytes result
-        (needed text_of (get_member (codes "lines") (table_view table.now))) }
+        (needed text_of (get_member key.now (table_view table.now))) }
 {
-    match find(table, "lines") {
+    match find(table, key) {
         Some(value) => owned_text_of(alloc, value),
         None => Err(ConfigFault::MissingField),
     }
@@ -63,7 +63,7 @@ pub(crate) fn addresses_in(alloc: Global, table: &Table) -> Result<Addresses, Co
     ensures { GivesUnless ConfigFault.Memory addresses_view result
         (addresses_in (table_view table.now)) }
 {
-    let lines = lines_in(alloc, table)?;
+    let lines = address_at(alloc, table, "lines")?;
     let fetch = fetch_in(alloc, table)?;
     let peers = peers_in(alloc, table)?;
     Ok(Addresses {

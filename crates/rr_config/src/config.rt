@@ -1,4 +1,4 @@
-//! The configuration of a node.
+//! The configuration of a node that saves snapshots.
 
 ghost use Rattle.std.specs.Prelude.{◌≡◌, Err, false};
 ghost use Rattle.std.specs.Str.{is_utf8};
@@ -8,15 +8,15 @@ ghost use Rattle.rr_schema.specs.declared.fault.SchemaFault.TheVariants.{BadToml
 ghost use Rattle.rr_config.specs.Config.{config_in, config_of, config_view};
 
 use crate::addresses::addresses_in;
+use crate::document::table_of;
 use crate::fault::ConfigFault;
 use crate::habits::habits_in;
 use crate::http::{Http, http_in};
 use crate::intake::intake_in;
 use rr_document::FromToml;
 use rr_line::Precision;
-use rr_schema::{Schema, SchemaFault};
+use rr_schema::Schema;
 use std::alloc::Global;
-use std::str;
 use toml::Table;
 
 /// What an operator configures.
@@ -100,17 +100,7 @@ impl Config {
         ensures read { GivesUnless ConfigFault.Memory config_view result (config_of text.now) }
         ensures foreign { is_utf8 text.now ≡ false → result ≡ Err (ConfigFault.Schema BadToml) }
     {
-        let Ok(text) = str::from_utf8(text) else {
-            return Err(ConfigFault::Schema(SchemaFault::BadToml));
-        };
-        match toml::table_from_str(alloc, text) {
-            Ok(table) => Config::from_table(alloc, &table),
-            Err(error) => {
-                if error.is_memory() {
-                    return Err(ConfigFault::Memory);
-                }
-                Err(ConfigFault::Schema(SchemaFault::BadToml))
-            }
-        }
+        let table = table_of(alloc, text)?;
+        Config::from_table(alloc, &table)
     }
 }

@@ -16,8 +16,8 @@ pub enum ConfigFault {
     MissingField,
     /// The value of a key is of another kind.
     WrongKind,
-    /// There are no addresses for fetches or too many, a number is negative, or `idle` or `every`
-    /// is not from 1 to 86,400 seconds.
+    /// A number is negative or out of its range, there are too few or too many values, or a range
+    /// ends before it begins.
     BadCount,
     /// The precision is not one that lines have.
     BadPrecision,

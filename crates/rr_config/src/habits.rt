@@ -47,12 +47,16 @@ pub(crate) fn quiet_in(table: &Table) -> Result<bool, ConfigFault>
     }
 }
 
-/// The file of counts, if the key is there.
-pub(crate) fn status_in(alloc: Global, table: &Table) -> Result<Option<String>, ConfigFault>
+/// A text, if the key is there.
+pub(crate) fn some_text_in(
+    alloc: Global,
+    table: &Table,
+    key: &str,
+) -> Result<Option<String>, ConfigFault>
     ensures { GivesUnless ConfigFault.Memory (option_map string_bytes) result
-        (if_there None some_text_of (get_member (codes "status") (table_view table.now))) }
+        (if_there None some_text_of (get_member key.now (table_view table.now))) }
 {
-    match find(table, "status") {
+    match find(table, key) {
         Some(value) => Ok(Some(owned_text_of(alloc, value)?)),
         None => Ok(None),
     }
@@ -67,7 +71,7 @@ pub(crate) fn habits_in(alloc: Global, table: &Table) -> Result<Habits, ConfigFa
     let idle = seconds_in(table, "idle")?;
     let every = seconds_in(table, "every")?;
     let quiet = quiet_in(table)?;
-    let status = status_in(alloc, table)?;
+    let status = some_text_in(alloc, table, "status")?;
     Ok(Habits {
         idle,
         every,

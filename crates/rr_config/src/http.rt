@@ -35,7 +35,7 @@ pub struct Http {
 }
 
 /// The number of seats.
-fn seats_of(value: &Value) -> Result<u64, ConfigFault>
+pub(crate) fn seats_of(value: &Value) -> Result<u64, ConfigFault>
     ensures { result ≡ seats_of (view value.now) }
 {
     let seats = count_of(value)?;

@@ -1,12 +1,14 @@
 //! The configuration of a node: what an operator writes in TOML.
 //!
-//! A [`Config`] has the schema of the store, the addresses that the node listens on, its peers, how
-//! long it serves, how the times of lines are taken, and how it is asked over HTTP. It is read by
-//! [`Config::from_toml`]; [`remarks`] tells an operator where a text is refused, and which of its
-//! keys are ignored.
+//! A [`Config`] is that of `rr serve`: it has the schema of the store, the addresses that the node
+//! listens on, its peers, how long it serves, how the times of lines are taken, and how it is asked
+//! over HTTP. A [`NodeConfig`] is that of `rr node`, whose [`OriginRange`] gives each start an
+//! origin of its own. Each is read by its `from_toml`; [`remarks`] and [`node_remarks`] tell an
+//! operator where a text is refused, and which of its keys are ignored.
 //!
 //! ```text
-//! TOML text ── toml ──> a table ── value, key by key ──> Config, or the first ConfigFault
+//! TOML text ── document ──> a table ── value, key by key ──> Config, NodeConfig
+//!                                                            or the first ConfigFault
 //! ```
 //!
 //! In `specs/` the configuration of a text is a function of its TOML table, key by key, and so is
@@ -15,17 +17,23 @@
 #![tactic(auto)]
 
 mod addresses;
+mod command;
 mod config;
+mod document;
 mod fault;
 mod habits;
 mod http;
 mod intake;
 pub mod laws;
 mod named_key;
+mod node;
+mod origins;
 mod remark;
 mod value;
 
 pub use config::Config;
 pub use fault::ConfigFault;
 pub use http::Http;
-pub use remark::remarks;
+pub use node::NodeConfig;
+pub use origins::OriginRange;
+pub use remark::{node_remarks, remarks};

@@ -1,10 +1,12 @@
 //! The key at which a configuration is refused.
 
-use crate::addresses::{fetch_in, lines_in, peers_in};
+use crate::addresses::{address_at, fetch_in, peers_in};
+use crate::command::Command;
 use crate::fault::ConfigFault;
-use crate::habits::{quiet_in, seconds_in, status_in};
+use crate::habits::{quiet_in, seconds_in, some_text_in};
 use crate::http::{address_in, durable_in, seats_in};
 use crate::intake::{count_in, lead_in, precision_in};
+use crate::node::{idle_in, origins_in, readers_in};
 use crate::value::find;
 use rr_schema::{ArchiveSpec, Schema, SchemaFault};
 use std::alloc::Global;
@@ -23,6 +25,13 @@ pub(crate) struct NamedKey<'a> {
     pub(crate) archive: Option<usize>,
 }
 
+impl<'a> NamedKey<'a> {
+    /// A key that stands above all archives.
+    pub(crate) fn above(key: &'a str) -> NamedKey<'a> {
+        NamedKey { key, archive: None }
+    }
+}
+
 impl fmt::Display for NamedKey<'_> {
     fn fmt<W: fmt::Write>(&self, f: &mut fmt::Formatter<W>) -> fmt::Result {
         f.write_str(self.key)?;
@@ -36,22 +45,47 @@ impl fmt::Display for NamedKey<'_> {
 /// The key at which a table is refused, if there is one.
 pub(crate) fn refused_key(
     alloc: Global,
+    command: Command,
     table: &Table,
     fault: ConfigFault,
 ) -> Option<NamedKey<'static>> {
-    match fault {
-        ConfigFault::Schema(fault) => refused_schema_key(alloc, table, fault),
-        _ => Some(NamedKey {
-            key: refused_node_key(alloc, table)?,
-            archive: None,
-        }),
-    }
+    let key = match (fault, command) {
+        (ConfigFault::Schema(fault), _) => return refused_schema_key(alloc, table, fault),
+        (_, Command::Serve) => refused_serve_key(alloc, table)?,
+        (_, Command::Node) => refused_node_key(alloc, table)?,
+    };
+    Some(NamedKey::above(key))
 }
 
-/// The first key of a node, but for those of its schema, whose value is refused.
+/// The first of these keys whose value is refused.
+fn first_refused(refusals: &[(&'static str, bool)]) -> Option<&'static str> {
+    for (key, is_refused) in refusals {
+        if *is_refused {
+            return Some(*key);
+        }
+    }
+    None
+}
+
+/// The first key of `rr node`, but for those of its schema, whose value is refused.
 fn refused_node_key(alloc: Global, table: &Table) -> Option<&'static str> {
-    let refusals = [
-        ("lines", lines_in(alloc, table).is_err()),
+    first_refused(&[
+        ("http", address_at(alloc, table, "http").is_err()),
+        ("lines", some_text_in(alloc, table, "lines").is_err()),
+        ("origins", origins_in(table).is_err()),
+        ("peers", peers_in(alloc, table).is_err()),
+        ("lead", lead_in(table).is_err()),
+        ("precision", precision_in(table).is_err()),
+        ("idle", idle_in(table).is_err()),
+        ("readers", readers_in(table).is_err()),
+        ("quiet", quiet_in(table).is_err()),
+    ])
+}
+
+/// The first key of `rr serve`, but for those of its schema, whose value is refused.
+fn refused_serve_key(alloc: Global, table: &Table) -> Option<&'static str> {
+    first_refused(&[
+        ("lines", address_at(alloc, table, "lines").is_err()),
         ("fetch", fetch_in(alloc, table).is_err()),
         ("peers", peers_in(alloc, table).is_err()),
         ("rounds", count_in(table, "rounds").is_err()),
@@ -61,17 +95,11 @@ fn refused_node_key(alloc: Global, table: &Table) -> Option<&'static str> {
         ("idle", seconds_in(table, "idle").is_err()),
         ("every", seconds_in(table, "every").is_err()),
         ("quiet", quiet_in(table).is_err()),
-        ("status", status_in(alloc, table).is_err()),
+        ("status", some_text_in(alloc, table, "status").is_err()),
         ("http", is_no_http(alloc, table)),
         ("http_seats", are_no_seats(alloc, table)),
         ("durable", is_not_durable(table)),
-    ];
-    for (key, is_refused) in refusals {
-        if is_refused {
-            return Some(key);
-        }
-    }
-    None
+    ])
 }
 
 /// Whether the address of HTTP is refused.
@@ -105,8 +133,10 @@ fn refused_schema_key(
 ) -> Option<NamedKey<'static>> {
     let key = match fault {
         SchemaFault::MissingField | SchemaFault::WrongKind => return unread_key(table),
-        SchemaFault::BadStep => "step",
-        SchemaFault::NoArchive | SchemaFault::TooManyArchives => "archive",
+        SchemaFault::BadStep => return Some(NamedKey::above("step")),
+        SchemaFault::NoArchive | SchemaFault::TooManyArchives => {
+            return Some(NamedKey::above("archive"));
+        }
         SchemaFault::BadSteps | SchemaFault::StepsNotRising => "steps",
         SchemaFault::BadRows => "rows",
         SchemaFault::BadXff => "xff_num or xff_den",
@@ -134,15 +164,9 @@ pub(crate) fn archives_of(table: &Table) -> Option<&Vec<Value>> {
 /// The first key of a schema whose value is missing or of another kind.
 fn unread_key(table: &Table) -> Option<NamedKey<'static>> {
     if !is_whole(table, "step") {
-        return Some(NamedKey {
-            key: "step",
-            archive: None,
-        });
+        return Some(NamedKey::above("step"));
     }
-    let no_tables = NamedKey {
-        key: "archive",
-        archive: None,
-    };
+    let no_tables = NamedKey::above("archive");
     let Some(archives) = archives_of(table) else {
         return Some(no_tables);
     };

@@ -1,50 +1,48 @@
 //! What an operator is told of the text of a configuration.
 
-use crate::config::Config;
+use crate::command::{Command, UNKNOWN};
 use crate::fault::ConfigFault;
 use crate::named_key::{ARCHIVE_KEYS, NamedKey, archives_of, refused_key};
 use std::alloc::{AllocError, Global};
+use std::fmt::Display;
 use std::str;
 use toml::Table;
 use toml::de::Error;
 
-/// The keys of a node.
-const NODE_KEYS: [&str; 16] = [
-    "step",
-    "archive",
-    "lines",
-    "fetch",
-    "peers",
-    "rounds",
-    "visits",
-    "lead",
-    "precision",
-    "idle",
-    "every",
-    "quiet",
-    "status",
-    "http",
-    "http_seats",
-    "durable",
-];
-
-/// What an operator is told of a text beside its configuration or its fault, a line each.
+/// What an operator is told of a text beside its [`Config`](crate::Config) or its fault, a line
+/// each.
 ///
 /// Of a text that is refused that is the key and the reason. Of any other it is each key that is
 /// ignored, and that there is no `lead`. The cost is that of reading the text twice.
 pub fn remarks(alloc: Global, text: &[u8]) -> Result<Vec<String>, AllocError> {
+    remarks_for(alloc, Command::Serve, text)
+}
+
+/// What an operator is told of a text beside its [`NodeConfig`](crate::NodeConfig) or its fault, as
+/// by [`remarks`]. Of a key that only `rr serve` has it says so.
+pub fn node_remarks(alloc: Global, text: &[u8]) -> Result<Vec<String>, AllocError> {
+    remarks_for(alloc, Command::Node, text)
+}
+
+/// What an operator is told of a text.
+fn remarks_for(alloc: Global, command: Command, text: &[u8]) -> Result<Vec<String>, AllocError> {
     let mut lines = Vec::new(alloc);
     match str::from_utf8(text) {
-        Ok(text) => push_remarks(alloc, &mut lines, text)?,
+        Ok(text) => push_remarks(alloc, &mut lines, command, text)?,
         Err(_) => lines.push(String::from_str(alloc, "the text is not UTF-8")?)?,
     }
     Ok(lines)
 }
 
 /// Adds what is told of a text.
-fn push_remarks(alloc: Global, lines: &mut Vec<String>, text: &str) -> Result<(), AllocError> {
+fn push_remarks(
+    alloc: Global,
+    lines: &mut Vec<String>,
+    command: Command,
+    text: &str,
+) -> Result<(), AllocError> {
     match toml::table_from_str(alloc, text) {
-        Ok(table) => push_table_remarks(alloc, lines, &table),
+        Ok(table) => push_table_remarks(alloc, lines, command, &table),
         Err(error) => push_error(alloc, lines, &error),
     }
 }
@@ -75,11 +73,12 @@ fn on_one_line(alloc: Global, text: &str) -> Result<String, AllocError> {
 fn push_table_remarks(
     alloc: Global,
     lines: &mut Vec<String>,
+    command: Command,
     table: &Table,
 ) -> Result<(), AllocError> {
-    match has_lead(alloc, table) {
+    match command.has_lead(alloc, table) {
         Ok(has_lead) => {
-            push_unknown(alloc, lines, table)?;
+            push_ignored(alloc, lines, command, table)?;
             if !has_lead {
                 let text = "no lead: one point from far in the future ends its series";
                 lines.push(String::from_str(alloc, text)?)?;
@@ -87,57 +86,77 @@ fn push_table_remarks(
             Ok(())
         }
         Err(ConfigFault::Memory) => Err(AllocError),
-        Err(fault) => push_refusal(alloc, lines, table, fault),
+        Err(fault) => push_refusal(alloc, lines, command, table, fault),
     }
-}
-
-/// Whether the configuration of a table has a lead.
-fn has_lead(alloc: Global, table: &Table) -> Result<bool, ConfigFault> {
-    Ok(Config::from_table(alloc, table)?.lead.is_some())
 }
 
 /// Adds where and why a table is refused.
 fn push_refusal(
     alloc: Global,
     lines: &mut Vec<String>,
+    command: Command,
     table: &Table,
     fault: ConfigFault,
 ) -> Result<(), AllocError> {
-    let line = match refused_key(alloc, table, fault) {
-        Some(named) => format!(in alloc; "{named}: {fault}")?,
-        None => format!(in alloc; "{fault}")?,
+    let Some(named) = refused_key(alloc, command, table, fault) else {
+        return Ok(lines.push(format!(in alloc; "{fault}")?)?);
     };
-    lines.push(line)?;
+    match command.bounds(named.key, fault) {
+        Some(bounds) => push_of_key(alloc, lines, named, bounds),
+        None => push_of_key(alloc, lines, named, fault),
+    }
+}
+
+/// Adds what is told of a key.
+fn push_of_key(
+    alloc: Global,
+    lines: &mut Vec<String>,
+    named: NamedKey<'_>,
+    text: impl Display + Drop,
+) -> Result<(), AllocError> {
+    lines.push(format!(in alloc; "{named}: {text}")?)?;
     Ok(())
 }
 
 /// Adds the keys of a table that are ignored, and those of its archives.
-fn push_unknown(alloc: Global, lines: &mut Vec<String>, table: &Table) -> Result<(), AllocError> {
-    push_others(alloc, lines, table, &NODE_KEYS, None)?;
+fn push_ignored(
+    alloc: Global,
+    lines: &mut Vec<String>,
+    command: Command,
+    table: &Table,
+) -> Result<(), AllocError> {
+    for key in table.keys() {
+        let key = key.as_str();
+        if let Some(why) = command.ignored(key) {
+            push_of_key(alloc, lines, NamedKey::above(key), why)?;
+        }
+    }
     let Some(archives) = archives_of(table) else {
         return Ok(());
     };
     for (place, archive) in archives.iter().enumerate() {
         if let Some(archive) = archive.as_table() {
-            push_others(alloc, lines, archive, &ARCHIVE_KEYS, Some(place + 1))?;
+            push_ignored_of_archive(alloc, lines, archive, place + 1)?;
         }
     }
     Ok(())
 }
 
-/// Adds the keys of a table that are none of these.
-fn push_others(
+/// Adds the keys of an archive that are ignored.
+fn push_ignored_of_archive(
     alloc: Global,
     lines: &mut Vec<String>,
     table: &Table,
-    keys: &[&str],
-    archive: Option<usize>,
+    number: usize,
 ) -> Result<(), AllocError> {
     for key in table.keys() {
         let key = key.as_str();
-        if !keys.contains(&key) {
-            let named = NamedKey { key, archive };
-            lines.push(format!(in alloc; "{named}: this key is unknown, and ignored")?)?;
+        if !ARCHIVE_KEYS.contains(&key) {
+            let named = NamedKey {
+                key,
+                archive: Some(number),
+            };
+            push_of_key(alloc, lines, named, UNKNOWN)?;
         }
     }
     Ok(())

@@ -1,15 +1,17 @@
 //! The values of a configuration's keys.
 
-ghost use Rattle.std.specs.Prelude.{◌≡◌, map, option_map, option_copied};
-ghost use Rattle.std.specs.Result.{result_map_both};
+ghost use Rattle.std.specs.Prelude.{◌≡◌, map, option_map};
 ghost use Rattle.std.specs.String.{string_bytes};
 ghost use Rattle.toml.specs.Data.{get_member};
 ghost use Rattle.toml.specs.View.{view, table_view, array_view};
 ghost use Rattle.rr_text.specs.Results.{Gives, GivesUnless};
-ghost use Rattle.rr_config.specs.Values.{text_of, flag_of, count_of, texts_in, texts_of, readers_of, precision_of, seconds_of};
+ghost use Rattle.rr_config.specs.Origins.{range_view};
+ghost use Rattle.rr_config.specs.Values.{are_whole, count_of, flag_of, origin_of, precision_of, range_between, range_in, range_of, readers_of, seconds_of, text_of, texts_in, texts_of};
 
 use crate::fault::ConfigFault;
+use crate::origins::OriginRange;
 use rr_line::Precision;
+use rr_schema::Origin;
 use rr_text::limits::{MAX_IDLE, MAX_READERS};
 use std::alloc::Global;
 use toml::{Table, Value};
@@ -105,4 +107,59 @@ pub(crate) fn seconds_of(value: &Value) -> Result<u64, ConfigFault>
         return Err(ConfigFault::BadCount);
     }
     Ok(seconds)
+}
+
+/// An origin.
+fn origin_of(value: &Value) -> Result<Origin, ConfigFault>
+    ensures { result ≡ origin_of (view value.now) }
+{
+    let number = count_of(value)?;
+    match u16::try_from(number) {
+        Ok(number) => Origin::new(number).map_err(|_| ConfigFault::BadCount),
+        Err(_) => Err(ConfigFault::BadCount),
+    }
+}
+
+/// Whether each of these values is a whole number.
+fn are_whole(values: &Vec<Value>) -> bool
+    ensures { result ≡ are_whole (array_view values.now) }
+{
+    for value in values {
+        if value.as_integer().is_none() {
+            return false;
+        }
+    }
+    true
+}
+
+/// The range from one origin to another.
+fn range_between(least: &Value, greatest: &Value) -> Result<OriginRange, ConfigFault>
+    ensures { Gives range_view result (range_between (view least.now) (view greatest.now)) }
+{
+    let first = origin_of(least)?;
+    let last = origin_of(greatest)?;
+    if first > last {
+        return Err(ConfigFault::BadCount);
+    }
+    Ok(OriginRange { first, last })
+}
+
+/// The range of two values, of no more and no fewer.
+fn range_in(values: &Vec<Value>) -> Result<OriginRange, ConfigFault>
+    ensures { Gives range_view result (range_in (array_view values.now)) }
+{
+    if values.len() != 2 {
+        return Err(ConfigFault::BadCount);
+    }
+    range_between(&values[0], &values[1])
+}
+
+/// A range of origins, written as an array of two whole numbers.
+pub(crate) fn range_of(value: &Value) -> Result<OriginRange, ConfigFault>
+    ensures { Gives range_view result (range_of (view value.now)) }
+{
+    match value.as_array() {
+        Some(values) if are_whole(values) => range_in(values),
+        _ => Err(ConfigFault::WrongKind),
+    }
 }

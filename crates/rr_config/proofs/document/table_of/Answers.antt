@@ -2,7 +2,7 @@ use Rattle.std.proofs.Common.{◌≡◌, true, false, refl, inr}
 use Rattle.std.specs.Str.{is_utf8}
 use Rattle.std.proofs.lemmas.Str.{is_utf8-from_IsUtf8, IsUtf8-from_is_utf8}
 use Rattle.std.proofs.lemmas.Bool.{false_from_ne_true}
-use Rattle.rr_config.proofs.config.Config.from_toml.Goals as goal
+use Rattle.rr_config.proofs.document.table_of.Goals as goal
 
 pub returns-in_default-clause-read : goal.returns-in_default-clause-read
 returns-in_default-clause-read c =
@@ -15,7 +15,7 @@ returns-in-Ok-table_from_str-clause-read c =
     let text = c.in-Ok.ensures.cases in
     let good : is_utf8 c.args.text.now ≡ true = is_utf8-from_IsUtf8 _ text.1 in
     let parsed = rw text.0 at c.in-Ok-table_from_str.ensures.ok in
-    rw (good, parsed) c.from_table.ensures
+    rw (good, parsed) refl
 
 pub returns-then-is_memory-clause-foreign : goal.returns-then-is_memory-clause-foreign
 returns-then-is_memory-clause-foreign c = λ bad.
