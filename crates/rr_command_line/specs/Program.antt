@@ -31,6 +31,18 @@ bare_serve_app = with_rule (with_rule (new_app (codes "serve")) (needed_rule (co
 abbrev pub serve_app : App
 serve_app = with_rule (with_rule bare_serve_app (option_rule (codes "load"))) (option_rule (codes "save"))
 
+-- --data DIR
+abbrev pub data_rule : Rule
+data_rule = record (option_rule (codes "data")) { required = true }
+
+-- node CONFIG --data DIR
+abbrev pub bare_node_app : App
+bare_node_app = with_rule (with_rule (new_app (codes "node")) (needed_rule (codes "CONFIG"))) data_rule
+
+-- node CONFIG --data DIR [--load FILE]
+abbrev pub node_app : App
+node_app = with_rule bare_node_app (option_rule (codes "load"))
+
 -- journal WHAT DIR
 abbrev pub journal_app : App
 journal_app = with_rule (with_rule (new_app (codes "journal")) (needed_rule (codes "WHAT"))) (needed_rule (codes "DIR"))
@@ -47,9 +59,13 @@ script_command_app = with_subcommand bare_app sim_app.top
 abbrev pub stream_commands_app : App
 stream_commands_app = with_subcommand script_command_app check_lines_app.top
 
--- and the one that serves as a node
+-- and the one that serves with snapshots
+abbrev pub serve_commands_app : App
+serve_commands_app = with_subcommand stream_commands_app serve_app.top
+
+-- and the one that serves from a directory
 abbrev pub node_commands_app : App
-node_commands_app = with_subcommand stream_commands_app serve_app.top
+node_commands_app = with_subcommand serve_commands_app node_app.top
 
 abbrev pub program_app : App
 program_app = with_subcommand node_commands_app journal_app.top

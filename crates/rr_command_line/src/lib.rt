@@ -5,6 +5,7 @@
 //! ├── sim [FILE]
 //! ├── check-lines [--precision P] [--now T]
 //! ├── serve CONFIG --origin N [--load FILE] [--save FILE]
+//! ├── node CONFIG --data DIR [--load FILE]
 //! └── journal WHAT DIR
 //! ```
 //!

@@ -3,7 +3,7 @@
 ghost use Rattle.std.specs.Prelude.{◌≡◌, IfOk};
 ghost use Rattle.clap.specs.Words.{app_of};
 ghost use Rattle.rr_command_line.specs.Building.{IsArg, IsCommand};
-ghost use Rattle.rr_command_line.specs.Program.{sim_app, option_rule, check_lines_app, needed_rule, origin_rule, bare_serve_app, serve_app, journal_app, bare_app, script_command_app, stream_commands_app, node_commands_app, program_app};
+ghost use Rattle.rr_command_line.specs.Program.{sim_app, option_rule, check_lines_app, needed_rule, origin_rule, bare_serve_app, serve_app, data_rule, bare_node_app, node_app, journal_app, bare_app, script_command_app, stream_commands_app, serve_commands_app, node_commands_app, program_app};
 
 use crate::version::VERSION;
 use clap::{Arg, Command};
@@ -93,6 +93,41 @@ fn serve<'a>(alloc: Global) -> Result<Command<'a>, AllocError>
         ))
 }
 
+/// `--data DIR`.
+fn data_arg<'a>(alloc: Global) -> Arg<'a>
+    ensures { IsArg result data_rule }
+{
+    option(
+        alloc,
+        "data",
+        "DIR",
+        "The directory that the node keeps its journal in, made where there is none",
+    )
+    .required(true)
+}
+
+/// `node CONFIG --data DIR`.
+fn bare_node<'a>(alloc: Global) -> Result<Command<'a>, AllocError>
+    ensures { IfOk result (IsCommand bare_node_app) }
+{
+    Command::new(alloc, "node")
+        .about("Serves as a node from a directory, and loses nothing that it acknowledged")
+        .arg(needed(alloc, "CONFIG", "The configuration of the node, in TOML"))?
+        .arg(data_arg(alloc))
+}
+
+/// `node CONFIG --data DIR [--load FILE]`.
+fn node<'a>(alloc: Global) -> Result<Command<'a>, AllocError>
+    ensures { IfOk result (IsCommand node_app) }
+{
+    bare_node(alloc)?.arg(option(
+        alloc,
+        "load",
+        "FILE",
+        "A snapshot to begin with, into a new directory",
+    ))
+}
+
 /// `journal WHAT DIR`.
 fn journal<'a>(alloc: Global) -> Result<Command<'a>, AllocError>
     ensures { IfOk result (IsCommand journal_app) }
@@ -133,11 +168,18 @@ fn stream_commands<'a>(alloc: Global) -> Result<Command<'a>, AllocError>
     script_command(alloc)?.subcommand(check_lines(alloc)?)
 }
 
-/// The program with these and the subcommand that serves as a node.
+/// The program with these and the subcommand that serves with snapshots.
+fn serve_commands<'a>(alloc: Global) -> Result<Command<'a>, AllocError>
+    ensures { IfOk result (λ c. app_of c ≡ serve_commands_app) }
+{
+    stream_commands(alloc)?.subcommand(serve(alloc)?)
+}
+
+/// The program with these and the subcommand that serves from a directory.
 fn node_commands<'a>(alloc: Global) -> Result<Command<'a>, AllocError>
     ensures { IfOk result (λ c. app_of c ≡ node_commands_app) }
 {
-    stream_commands(alloc)?.subcommand(serve(alloc)?)
+    serve_commands(alloc)?.subcommand(node(alloc)?)
 }
 
 /// The program and its subcommands. Refused where memory runs out.

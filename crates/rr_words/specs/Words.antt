@@ -20,6 +20,7 @@ pub data Asked : Type 0 where
   sim : Option Text → Asked
   check_lines : Precision → ℤ → Asked
   serve : Text → ℕ → Option Text → Option Text → Asked
+  node : Text → Text → Option Text → Asked
   journal : JournalWord → Text → Asked
 
 abbrev pub asked_by : Order → Asked
@@ -27,6 +28,8 @@ asked_by (order.Sim file) = sim (option_map string_bytes file)
 asked_by (order.CheckLines precision now) = check_lines precision now
 asked_by (order.Serve config origin load save) =
     serve (string_bytes config) origin (option_map string_bytes load) (option_map string_bytes save)
+asked_by (order.Node config folder load) =
+    node (string_bytes config) (string_bytes folder) (option_map string_bytes load)
 asked_by (order.Journal what folder) = journal what (string_bytes folder)
 
 -- ns, us, ms or s; nanoseconds if none is written
@@ -68,6 +71,15 @@ serve_asked rows =
     serve_asked_by (first_of (codes "CONFIG") rows) (first_of (codes "origin") rows)
     (first_of (codes "load") rows) (first_of (codes "save") rows)
 
+-- what `node` asks for by the texts of its configuration, directory and file
+abbrev pub node_asked_by : Option Text → Option Text → Option Text → Option Asked
+node_asked_by config folder load = option_and_then (λ c. option_map (λ f. node c f load) folder) config
+
+-- what the values of `node` ask for
+abbrev pub node_asked : List Row → Option Asked
+node_asked rows =
+    node_asked_by (first_of (codes "CONFIG") rows) (first_of (codes "data") rows) (first_of (codes "load") rows)
+
 -- check, or cells
 abbrev pub journal_word_at : Text → Option JournalWord
 journal_word_at text =
@@ -91,7 +103,8 @@ asked_of (Some met) =
     if bytes_eq met.0 (codes "sim") then Some (sim (first_of (codes "FILE") met.1))
     else (if bytes_eq met.0 (codes "check-lines") then lines_asked met.1
     else (if bytes_eq met.0 (codes "serve") then serve_asked met.1
-    else (if bytes_eq met.0 (codes "journal") then journal_asked met.1 else None)))
+    else (if bytes_eq met.0 (codes "node") then node_asked met.1
+    else (if bytes_eq met.0 (codes "journal") then journal_asked met.1 else None))))
 
 -- what words ask for that clap finds no fault in
 abbrev pub asked_at : List Text → Option Asked

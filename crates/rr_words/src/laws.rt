@@ -3,11 +3,12 @@
 
 ghost use Rattle.std.specs.Prelude.{◌≡◌, ℕ, List, [], ◌∷◌, ◌++◌, pos, negsuc, codes, None, Some};
 ghost use Rattle.rr_line.specs.declared.precision.Precision.TheVariants.{Ns, Us, Ms, S};
-ghost use Rattle.rr_words.specs.Words.{AskFor, AskForNothing, asked_at, check_lines, journal, lines_asked_by, serve, serve_asked_by, sim};
+ghost use Rattle.rr_words.specs.Words.{AskFor, AskForNothing, asked_at, check_lines, journal, lines_asked_by, node, node_asked_by, serve, serve_asked_by, sim};
 ghost use Rattle.rr_words.specs.declared.order.JournalWord.TheVariants.{Check, Cells};
 
 /// The options of `check-lines` take any text as their value, in either order; what they ask for is
-/// then up to these texts. A script's file may have any name, and so may the files of `serve`.
+/// then up to these texts. A script's file may have any name, and so may the files of `serve`
+/// and `node`, and a node's directory.
 pub fn values_are_any_text()
     ensures file { (f : List ℕ) → AskFor (codes "sim" ∷ codes "--" ∷ f ∷ []) (sim (Some f)) }
     ensures precision { (p : List ℕ) → asked_at (codes "check-lines" ∷ (codes "--precision=" ++ p) ∷ [])
@@ -23,6 +24,9 @@ pub fn values_are_any_text()
     ensures serve { (n l s : List ℕ)
         → asked_at (codes "serve" ∷ codes "c" ∷ (codes "--origin=" ++ n) ∷ (codes "--load=" ++ l) ∷ (codes "--save=" ++ s) ∷ [])
         ≡ serve_asked_by (Some (codes "c")) (Some n) (Some l) (Some s) }
+    ensures node { (d l : List ℕ)
+        → asked_at (codes "node" ∷ codes "c" ∷ (codes "--data=" ++ d) ∷ (codes "--load=" ++ l) ∷ [])
+        ≡ node_asked_by (Some (codes "c")) (Some d) (Some l) }
 {}
 
 /// Command lines of each kind, written out, ask for what they are to ask for, or are refused.
@@ -46,6 +50,10 @@ pub fn command_lines_are_read()
         (serve (codes "c") 7 None None) }
     ensures serve_from_a_snapshot { AskFor (codes "serve" ∷ codes "--origin=65535" ∷ codes "--load" ∷ codes "l" ∷ codes "c" ∷ [])
         (serve (codes "c") 65535 (Some (codes "l")) None) }
+    ensures node { AskFor (codes "node" ∷ codes "c" ∷ codes "--data" ∷ codes "d" ∷ [])
+        (node (codes "c") (codes "d") None) }
+    ensures node_from_a_snapshot { AskFor (codes "node" ∷ codes "--data=d" ∷ codes "--load" ∷ codes "l" ∷ codes "c" ∷ [])
+        (node (codes "c") (codes "d") (Some (codes "l"))) }
     ensures journal_check { AskFor (codes "journal" ∷ codes "check" ∷ codes "d" ∷ [])
         (journal Check (codes "d")) }
     ensures journal_cells { AskFor (codes "journal" ∷ codes "cells" ∷ codes "d" ∷ [])
@@ -61,6 +69,9 @@ pub fn command_lines_are_read()
     ensures origin_0 { AskForNothing (codes "serve" ∷ codes "c" ∷ codes "--origin" ∷ codes "0" ∷ []) }
     ensures past_origins { AskForNothing (codes "serve" ∷ codes "c" ∷ codes "--origin=65536" ∷ []) }
     ensures no_configuration { AskForNothing (codes "serve" ∷ codes "--origin" ∷ codes "7" ∷ []) }
+    ensures no_directory { AskForNothing (codes "node" ∷ codes "c" ∷ []) }
+    ensures node_of_no_configuration { AskForNothing (codes "node" ∷ codes "--data" ∷ codes "d" ∷ []) }
+    ensures node_of_an_origin { AskForNothing (codes "node" ∷ codes "c" ∷ codes "--data=d" ∷ codes "--origin=7" ∷ []) }
     ensures journal_of_nothing { AskForNothing (codes "journal" ∷ codes "check" ∷ []) }
     ensures other_journal_word { AskForNothing (codes "journal" ∷ codes "frob" ∷ codes "d" ∷ []) }
     ensures other_word { AskForNothing (codes "frob" ∷ []) }

@@ -4,6 +4,7 @@
 //! none, sim [FILE]                                        Order::Sim
 //! check-lines [--precision P] [--now T]                   Order::CheckLines
 //! serve CONFIG --origin N [--load FILE] [--save FILE]     Order::Serve
+//! node CONFIG --data DIR [--load FILE]                    Order::Node
 //! journal check|cells DIR                                 Order::Journal
 //! ```
 //!

@@ -27,7 +27,7 @@ pub enum Order {
         /// The time of a line without one, in nanoseconds since the Unix epoch.
         now: i64,
     },
-    /// To serve as a node.
+    /// To serve as a node with snapshots.
     Serve {
         /// The file of the configuration.
         config: String,
@@ -37,6 +37,15 @@ pub enum Order {
         load: Option<String>,
         /// The file that a snapshot is saved to.
         save: Option<String>,
+    },
+    /// To serve as a node from a directory.
+    Node {
+        /// The file of the configuration.
+        config: String,
+        /// The directory that the node keeps its journal in.
+        data: String,
+        /// The file of a snapshot to begin with.
+        load: Option<String>,
     },
     /// To read the data directory of a node.
     Journal {

@@ -2,7 +2,7 @@
 
 ghost use Rattle.std.specs.Prelude.{◌≡◌, ◌≢◌, Some, None, IfOk, IfErr, MatchResult, map};
 ghost use Rattle.clap.specs.Words.{found_of, kind_of, rows_of, subcommand_rows_of};
-ghost use Rattle.rr_words.specs.Words.{asked_at, asked_by, asked_of, journal_asked, lines_asked, serve_asked};
+ghost use Rattle.rr_words.specs.Words.{asked_at, asked_by, asked_of, journal_asked, lines_asked, node_asked, serve_asked};
 
 use crate::fault::WordsFault;
 use crate::order::Order;
@@ -92,6 +92,29 @@ fn serve_order(
     })
 }
 
+/// What the matches of `node` ask for.
+fn node_order(
+    alloc: Global,
+    command: &mut Command<'_>,
+    matches: &ArgMatches<'_>,
+) -> Result<Order, WordsFault>
+    ensures { MatchResult result
+        (λ order. node_asked (rows_of (found_of matches.now)) ≡ Some (asked_by order))
+        (λ fault. fault ≢ WordsFault.Memory → node_asked (rows_of (found_of matches.now)) ≡ None) }
+{
+    let Some(config) = value_of(matches, "CONFIG") else {
+        return Err(value_fault(alloc, command, NO_CONFIG));
+    };
+    let Some(data) = value_of(matches, "data") else {
+        return Err(value_fault(alloc, command, NO_FOLDER));
+    };
+    Ok(Order::Node {
+        config: String::from_str(alloc, config)?,
+        data: String::from_str(alloc, data)?,
+        load: owned(alloc, value_of(matches, "load"))?,
+    })
+}
+
 /// What the matches of `journal` ask for.
 fn journal_order(
     alloc: Global,
@@ -135,6 +158,7 @@ fn order_of(
         }
         "check-lines" => lines_order(alloc, command, inner),
         "serve" => serve_order(alloc, command, inner),
+        "node" => node_order(alloc, command, inner),
         "journal" => journal_order(alloc, command, inner),
         _ => Err(value_fault(alloc, command, UNKNOWN_COMMAND)),
     }

@@ -94,6 +94,26 @@ pub returns-clause-version : goal.returns-clause-version
 unfolding clap_on_literals
 returns-clause-version c = refl
 
+pub returns-clause-node : goal.returns-clause-node
+unfolding clap_on_literals
+returns-clause-node c = refl
+
+pub returns-clause-node_from_a_snapshot : goal.returns-clause-node_from_a_snapshot
+unfolding clap_on_literals
+returns-clause-node_from_a_snapshot c = refl
+
+pub returns-clause-no_directory : goal.returns-clause-no_directory
+unfolding clap_on_literals
+returns-clause-no_directory c = refl
+
+pub returns-clause-node_of_no_configuration : goal.returns-clause-node_of_no_configuration
+unfolding clap_on_literals
+returns-clause-node_of_no_configuration c = refl
+
+pub returns-clause-node_of_an_origin : goal.returns-clause-node_of_an_origin
+unfolding clap_on_literals
+returns-clause-node_of_an_origin c = refl
+
 pub returns-clause-journal_check : goal.returns-clause-journal_check
 unfolding clap_on_literals
 returns-clause-journal_check c = refl

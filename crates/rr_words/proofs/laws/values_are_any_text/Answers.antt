@@ -25,3 +25,7 @@ returns-clause-both_the_other_way c = λ p t. refl
 pub returns-clause-serve : goal.returns-clause-serve
 unfolding clap_on_literals
 returns-clause-serve c = λ n l s. refl
+
+pub returns-clause-node : goal.returns-clause-node
+unfolding clap_on_literals
+returns-clause-node c = λ d l. refl
