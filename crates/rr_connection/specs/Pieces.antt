@@ -19,6 +19,10 @@ unsent_of c = c.unsent.items
 abbrev pub has_ended : LineConnection → Bool
 has_ended c = c.has_ended
 
+-- a piece was given
+abbrev pub has_given : LineConnection → Bool
+has_given c = c.has_given
+
 abbrev pub receives : Phase → Bool
 receives Receives = true
 receives Waits = false
@@ -73,6 +77,8 @@ pub record IsPiece (old new : LineConnection) (piece : Piece) : Type 0 where
   pub parts : piece.text.items ++ unread_of new ≡ unread_of old
   pub short : length piece.text.items ≤ PIECE
   pub whole : EndsLine piece.text.items ⊎ (HasNoLineFeed piece.text.items × ((has_ended old || length piece.text.items == PIECE) ≡ true))
+  pub first : piece.is_first ≡ not (has_given old)
+  pub given : has_given new ≡ true
   pub last : piece.is_last ≡ (has_ended old && (length (unread_of new) == 0))
   pub phase : new.phase ≡ phase_of piece.is_last
 

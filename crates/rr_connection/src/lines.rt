@@ -1,6 +1,6 @@
 //! The pieces of a connection for lines.
 
-ghost use Rattle.std.specs.Prelude.{◌≡◌, ◌≤◌, ◌++◌, ◌||◌, ◌==◌, [], drop, length, min, not, take, true, IfOk, OnErr, OnOk, MatchOption};
+ghost use Rattle.std.specs.Prelude.{◌≡◌, ◌≤◌, ◌++◌, ◌||◌, ◌==◌, [], drop, length, false, min, not, take, true, IfOk, OnErr, OnOk, MatchOption};
 
 use crate::room::{MAX_UNSENT, release};
 use bytes::BytesMut;
@@ -19,6 +19,8 @@ const _: () = prove!(PIECE == 131_072);
 pub struct Piece {
     /// The bytes.
     pub text: Vec<u8>,
+    /// Whether no piece was before it.
+    pub is_first: bool,
     /// Whether the input ended behind it.
     pub is_last: bool,
 }
@@ -41,6 +43,8 @@ enum Phase {
 pub struct LineConnection {
     alloc: Global,
     phase: Phase,
+    /// Whether a piece was given.
+    has_given: bool,
     has_ended: bool,
     unread: BytesMut,
     unsent: BytesMut,
@@ -49,17 +53,19 @@ pub struct LineConnection {
 impl LineConnection {
     ghost use Rattle.rr_connection.specs.declared.lines.Phase.TheVariants as Phase;
     ghost use Rattle.rr_connection.specs.Pieces.{AwaitsMore, IsNextLen, IsPiece};
-    ghost use Rattle.rr_connection.specs.Pieces.{after_answer, allocated, has_ended, is_over};
+    ghost use Rattle.rr_connection.specs.Pieces.{after_answer, allocated, has_ended, has_given, is_over};
     ghost use Rattle.rr_connection.specs.Pieces.{is_ready, unread_of, unsent_of, wants_read};
 
     /// A connection that has received nothing.
     pub fn new(alloc: Global) -> LineConnection
+        ensures given { has_given result ≡ false }
         ensures unread { unread_of result ≡ [] }
         ensures unsent { unsent_of result ≡ [] }
     {
         LineConnection {
             alloc,
             phase: Phase::Receives,
+            has_given: false,
             has_ended: false,
             unread: BytesMut::new(alloc),
             unsent: BytesMut::new(alloc),
@@ -192,7 +198,13 @@ impl LineConnection {
         } else {
             Phase::Waits
         };
-        Ok(Some(Piece { text, is_last }))
+        let is_first = !self.has_given;
+        self.has_given = true;
+        Ok(Some(Piece {
+            text,
+            is_first,
+            is_last,
+        }))
     }
 
     /// Answers the piece that is out. If memory runs out, nothing is changed.

@@ -59,6 +59,7 @@ pub(crate) fn reason_of(status: u16) -> &'static [u8]
         404 => b"Not Found",
         405 => b"Method Not Allowed",
         410 => b"Gone",
+        415 => b"Unsupported Media Type",
         500 => b"Internal Server Error",
         501 => b"Not Implemented",
         503 => b"Service Unavailable",

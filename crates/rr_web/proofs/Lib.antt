@@ -1,3 +1,4 @@
 pub mod CutLemmas
 pub mod UnquotedLemmas
 pub mod JsonRowsLemmas
+pub mod ListingLemmas

@@ -1,6 +1,6 @@
 -- A text that was put in quotes is read again, whatever follows it.
-use Rattle.std.proofs.Common.{◌≡◌, ℕ, zero, suc, ◌+◌, ◌-◌, ◌*◌, ◌/◌, ◌%◌, ◌<◌, ◌≤◌, true, false, eqb, List, [], ◌∷◌, ◌++◌, length, Some, None, inl, inr, refl, ap, ◌∙◌, arith}
-use Rattle.std.specs.Prelude.{nat_lt, ◌||◌, ◌==◌, Option}
+use Rattle.std.proofs.Common.{◌≡◌, ℕ, zero, suc, ◌+◌, ◌*◌, ◌/◌, ◌%◌, ◌<◌, ◌≤◌, true, false, eqb, List, [], ◌∷◌, ◌++◌, length, Some, inl, inr, refl, ap, arith}
+use Rattle.std.specs.Prelude.{nat_lt, ◌||◌}
 use Rattle.std.specs.Char.{digit_char}
 use Rattle.std.specs.List.{flat_map}
 use Rattle.std.specs.Str.Lossy.{utf8_lossy}
@@ -8,7 +8,7 @@ use Rattle.std.proofs.lemmas.List.{append_assoc, length-append}
 use Rattle.std.proofs.lemmas.Bool.{cases_lt, cases_Bool, or_parts, lt-ltb, le-ltb}
 use Rattle.std.proofs.lemmas.Bool.Decides.{nat_tests}
 use Rattle.rr_text.specs.declared.bytes.TheConstants.{BACKSLASH}
-use Rattle.rr_web.specs.Json.{double_quote, escaped, quoted}
+use Rattle.rr_web.specs.Json.{double_quote, escaped}
 use Rattle.rr_web.specs.Unquoted.{hex_value, escape_at, byte_at, unquoted_within, QuotedIsRead}
 
 digit_again : (d : ℕ) → d < 16 → hex_value (digit_char d) ≡ d

@@ -2,6 +2,8 @@
 use Rattle.std.specs.Prelude.{ℕ, Bool, true, false, ◌||◌, List, codes, if◌then◌else◌}
 use Rattle.std.specs.Str.{bytes_eq}
 use Rattle.rr_web.specs.declared.ask.Ask.{Ask}
+use Rattle.rr_web.specs.declared.reply.Kind.{Kind}
+use Rattle.rr_web.specs.declared.reply.Kind.TheVariants as kind
 use Rattle.rr_web.specs.declared.ask.Ask.TheVariants.{Write, Fetch, Series, Metrics, Page, Script, Style, Health, Ping, OnlyPost, OnlyGet, Nothing}
 
 -- what is read at a path
@@ -29,7 +31,13 @@ by_get reads Nothing = Nothing
 by_get true ask = ask
 by_get false ask = OnlyGet
 
-abbrev pub ask_of : List ℕ → List ℕ → Ask
+unfoldable pub ask_of : List ℕ → List ℕ → Ask
 ask_of method path =
     if is_of_lines path then (if bytes_eq method (codes "POST") then Write else OnlyPost)
     else by_get (is_get method) (read_at path)
+
+-- the kind of the page, its script or its style
+abbrev pub page_kind : Ask → Kind
+page_kind Script = kind.Script
+page_kind Style = kind.Style
+page_kind other = kind.Html

@@ -8,3 +8,11 @@ pub mod JsonRows
 pub mod Unquoted
 pub mod Answers
 pub mod Series
+pub mod Target
+pub mod Refusals
+pub mod Response
+pub mod Family
+pub mod NodeMetrics
+pub mod Fixed
+pub mod Listing
+pub mod Read

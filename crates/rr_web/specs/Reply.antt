@@ -1,10 +1,11 @@
 -- What is answered to a request.
-use Rattle.std.specs.Prelude.{ℕ, Bool, true, false, ◌==◌, List, [], ◌∷◌, ◌++◌, codes, Option, None, Some, option_map, if◌then◌else◌}
+use Rattle.std.specs.Prelude.{◌≡◌, ℕ, Bool, true, false, ◌==◌, List, [], ◌∷◌, ◌++◌, codes, Option, None, Some, option_map, if◌then◌else◌}
 use Rattle.std.specs.Borrow.{Bor}
 use Rattle.std.specs.List.{flat_map}
 use Rattle.rr_text.specs.declared.bytes.TheConstants.{LINE_FEED}
 use Rattle.rr_web.specs.declared.reply.Reply.{Reply}
 use Rattle.rr_web.specs.declared.reply.Status.{Status}
+use Rattle.rr_web.specs.declared.reply.Status.TheVariants as status
 use Rattle.rr_web.specs.declared.reply.Status.TheVariants.{NoContent, BadRequest, Failed}
 use Rattle.rr_web.specs.declared.reply.Kind.{Kind}
 use Rattle.rr_web.specs.declared.reply.Kind.TheVariants.{Json}
@@ -20,6 +21,11 @@ reply_of status kind text = record { status = status; kind = kind; text = text }
 
 abbrev pub reply_view : Reply → ReplyView
 reply_view r = reply_of r.status r.kind r.text.items
+
+-- a reply gives what was asked for, a text of this kind
+pub record IsFound (kind : Kind) (reply : ReplyView) : Type 0 where
+  pub status : reply.status ≡ status.Ok
+  pub kind_is : reply.kind ≡ kind
 
 -- a byte of lines inside a text of JSON
 abbrev pub inside : ℕ → List ℕ

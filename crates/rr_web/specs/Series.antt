@@ -1,8 +1,12 @@
--- How many keys of series are asked for, and the line of a key.
-use Rattle.std.specs.Prelude.{ℕ, Bool, nat_eq, ◌||◌, ◌==◌, nat_lt, List, [], ◌∷◌, ◌++◌, Option, None, Some, Result, Ok, Err, if◌then◌else◌, codes}
+-- Which keys of series are asked for, and the line of a key.
+use Rattle.std.specs.Prelude.{ℕ, Bool, false, nat_eq, ◌||◌, ◌==◌, nat_lt, List, [], ◌∷◌, ◌++◌, Option, None, Some, Result, Ok, Err, if◌then◌else◌, codes, unwrap_or}
 use Rattle.std.specs.List.{starts_with}
+use Rattle.std.specs.Ordering.{is_gt}
+use Rattle.rr_text.specs.Bytes.{bytes_cmp}
 use Rattle.rr_text.specs.declared.bytes.TheConstants.{LINE_FEED}
+use Rattle.rr_key.specs.Series.{IsKeyText}
 use Rattle.rr_text.specs.Text.{number_at}
+use Rattle.rr_web.specs.Query.{parameter_of}
 use Rattle.rr_web.specs.declared.series.CountFault.{CountFault}
 use Rattle.rr_web.specs.declared.series.CountFault.TheVariants.{BadCount, BadNumber}
 use Rattle.rr_web.specs.declared.series.TheConstants.{KEYS, MAX_KEYS}
@@ -27,3 +31,16 @@ line_of key = key ++ LINE_FEED ∷ []
 
 abbrev pub begins_with : List ℕ → List ℕ → Bool
 begins_with prefix key = starts_with nat_eq key prefix
+
+-- whether a key is behind all those that begin with a prefix
+abbrev pub is_past : List ℕ → List ℕ → Bool
+is_past prefix key = if begins_with prefix key then false else is_gt (bytes_cmp key prefix)
+
+-- a text that is named is no key text
+abbrev pub IsNoKey : Option (List ℕ) → Type 0
+IsNoKey None = ⊥
+IsNoKey (Some text) = ¬ IsKeyText text
+
+-- the prefix that a query names; every key begins with the empty one, if it names none
+abbrev pub prefix_of : List ℕ → List ℕ
+prefix_of query = unwrap_or (parameter_of query (codes "prefix")) []

@@ -1,7 +1,7 @@
 //! What a request asks for.
 
 ghost use Rattle.std.specs.Prelude.{◌≡◌};
-ghost use Rattle.rr_web.specs.Ask.{ask_of, is_get, read_at};
+ghost use Rattle.rr_web.specs.Ask.{ask_of, is_get, is_of_lines, read_at};
 
 /// What a request asks for, by its method and its path.
 #[derive(Clone, Copy, Debug, PartialEq, Eq)]
@@ -12,15 +12,15 @@ pub enum Ask {
     Fetch,
     /// The keys of series.
     Series,
-    /// The counts of what the node did.
+    /// The numbers of the node.
     Metrics,
     /// The page, its script or its style.
     Page,
     Script,
     Style,
-    /// Whether the node is there.
+    /// Whether the node can acknowledge what it is sent.
     Health,
-    /// The same, as InfluxDB's clients ask.
+    /// Whether the node is there, as InfluxDB's clients ask.
     Ping,
     /// What only `POST` asks for, by another method.
     OnlyPost,
@@ -31,35 +31,52 @@ pub enum Ask {
 }
 
 /// What is read at a path, or that nothing is.
-fn read_at(path: &str) -> Ask
+fn read_at(path: &[u8]) -> Ask
     ensures { result ≡ read_at path.now }
 {
-    match path {
-        "/fetch" => Ask::Fetch,
-        "/series" => Ask::Series,
-        "/metrics" => Ask::Metrics,
-        "/" => Ask::Page,
-        "/rr.js" => Ask::Script,
-        "/rr.css" => Ask::Style,
-        "/health" => Ask::Health,
-        "/ping" => Ask::Ping,
-        _ => Ask::Nothing,
+    if path == b"/fetch".as_slice() {
+        Ask::Fetch
+    } else if path == b"/series".as_slice() {
+        Ask::Series
+    } else if path == b"/metrics".as_slice() {
+        Ask::Metrics
+    } else if path == b"/".as_slice() {
+        Ask::Page
+    } else if path == b"/rr.js".as_slice() {
+        Ask::Script
+    } else if path == b"/rr.css".as_slice() {
+        Ask::Style
+    } else if path == b"/health".as_slice() {
+        Ask::Health
+    } else if path == b"/ping".as_slice() {
+        Ask::Ping
+    } else {
+        Ask::Nothing
     }
 }
 
 /// Whether a method reads.
-fn is_get(method: &str) -> bool
+fn is_get(method: &[u8]) -> bool
     ensures { result ≡ is_get method.now }
 {
-    method == "GET" || method == "HEAD"
+    method == b"GET".as_slice() || method == b"HEAD".as_slice()
 }
 
-/// What a request of this method and this path asks for.
-pub fn asked_by(method: &str, path: &str) -> Ask
+/// Whether lines are taken at a path.
+fn is_of_lines(path: &[u8]) -> bool
+    ensures { result ≡ is_of_lines path.now }
+{
+    path == b"/write".as_slice() || path == b"/api/v2/write".as_slice()
+}
+
+/// What a request of this method and this path asks for. Both are compared byte by byte: methods
+/// and paths have a case.
+#[tactic(auto, unfolding(crate::specs::Ask::ask_of))]
+pub fn asked_by(method: &[u8], path: &[u8]) -> Ask
     ensures { result ≡ ask_of method.now path.now }
 {
-    if path == "/write" || path == "/api/v2/write" {
-        return if method == "POST" {
+    if is_of_lines(path) {
+        return if method == b"POST".as_slice() {
             Ask::Write
         } else {
             Ask::OnlyPost

@@ -1,42 +1,64 @@
 //! What is asked of a node over HTTP, and its replies: there is no socket here.
 //!
 //! ```text
+//! target ── target_parts ──> a path and a query
 //! method and path ── asked_by ──> Ask
 //! query ── parameter ──> a value
-//! query ── fetch_reply, by a reader ──> Reply: a status, a kind of text, and the text, CSV or JSON
-//! query ── count_in ──> a number of keys
+//! request that reads ── read_reply, by a reader ──> Reply: a status, a kind of text, and the text
+//!     fetch_reply ──> the rows of a fetch, CSV or JSON
+//!     series_reply ──> the keys of series, a line each
+//!     page_reply ──> a page, its script and its style
+//! request that writes ── refused_write ──> a Reply, or none: then its lines are to be taken
 //! refusals and report of lines ── write_reply ──> Reply
-//! keys of series ── push_keys ──> the lines of those that begin with a prefix
-//! page_reply ──> a page, its script and its style
+//! numbers of a node ── metrics_text ──> the text form of Prometheus
+//! Reply ── response_of ──> a response of HTTP
 //! ```
 //!
-//! In `specs/` each is a function of the bytes. Queries are those of HTML's forms, as the URL
-//! Standard reads them; a write is answered as InfluxDB answers one, so that its senders know a
-//! refusal of some lines.
+//! In `specs/` each is a function of the bytes. Requests and responses are those of
+//! `rr_connection`. Queries are those of HTML's forms, as the URL Standard reads them; a write is
+//! answered as InfluxDB answers one, so that its senders know a refusal of some lines.
 #![tactic(auto)]
 
 mod answers;
 mod ask;
+mod family;
 mod fetches;
+mod fixed;
 mod json;
 pub mod laws;
+mod listing;
+mod node_metrics;
 mod page;
 mod precision;
 mod query;
+mod read;
+mod refusals;
 mod reply;
+mod response;
 mod rows;
+mod samples;
 mod script;
 mod series;
 mod style;
+mod target;
 mod texts;
 mod writes;
 
 pub use answers::refusal_reply;
 pub use ask::{Ask, asked_by};
+pub use family::{Amount, Family, FamilyKind, Label, Sample, push_family};
 pub use fetches::fetch_reply;
+pub use listing::series_reply;
+pub use node_metrics::{
+    AnswerCounts, ArchiveRows, NodeMetrics, RefusedLines, archive_rows, metrics_text,
+};
 pub use precision::is_precision;
 pub use query::parameter;
+pub use read::read_reply;
+pub use refusals::refused_write;
 pub use reply::{Kind, Reply, Status};
+pub use response::response_of;
 pub use series::{CountFault, count_in, push_keys};
+pub use target::target_parts;
 pub use texts::{found, page_reply};
 pub use writes::write_reply;

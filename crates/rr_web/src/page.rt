@@ -1,15 +1,15 @@
 //! The page of a node.
 
 /// A page that lists series and plots them. It asks for its script and its style, and both ask
-/// the node alone.
+/// the node alone. Their addresses are relative, so that it works behind the prefix of a proxy.
 pub(crate) const PAGE: &str = r##"<!doctype html>
 <html lang="en">
 <head>
 <meta charset="utf-8">
 <meta name="viewport" content="width=device-width, initial-scale=1">
 <title>rr</title>
-<link rel="stylesheet" href="/rr.css">
-<script src="/rr.js" defer></script>
+<link rel="stylesheet" href="rr.css">
+<script src="rr.js" defer></script>
 </head>
 <body>
 <header>

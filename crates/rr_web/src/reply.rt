@@ -17,9 +17,9 @@ pub enum Status {
     OnlyGet,
     /// 500: it isn't known what became of the request.
     Failed,
-    /// 501: the body has a coding that isn't undone here.
+    /// 415: the body has a content coding, and none is undone here.
     UnknownCoding,
-    /// 503: the node is behind. Nothing was done, so come again.
+    /// 503: the node is behind, or can acknowledge nothing. Nothing was done, so come again.
     Busy,
 }
 
@@ -32,7 +32,7 @@ pub enum Kind {
     Json,
     /// Lines of text.
     Plain,
-    /// Counts, in the text form of Prometheus.
+    /// Numbers, in the text form of Prometheus.
     Metrics,
     /// A page.
     Html,

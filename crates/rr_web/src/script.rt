@@ -1,7 +1,7 @@
 //! The script of the page.
 
 /// Lists series, plots those that are chosen, and asks again every few seconds. It takes what it
-/// shows from `/series`, `/fetch` and `/metrics`.
+/// shows from `series`, `fetch` and `metrics`, which stand beside it.
 pub(crate) const SCRIPT: &str =
     r##"// Lists series, plots those that are chosen, and asks again every few seconds.
 "use strict";
@@ -22,7 +22,9 @@ const TIME_STEPS = [
     DAY, 2 * DAY, 7 * DAY, 30 * DAY, 90 * DAY, 365 * DAY,
 ];
 const STATE = [
+    ["rr_series", "series"],
     ["rr_cells", "cells"],
+    ["rr_connections", "connections"],
     ["rr_connections_total", "connections"],
     ["rr_points_total", "points"],
     ["rr_samples_total", "samples"],
@@ -30,6 +32,7 @@ const STATE = [
     ["rr_past_horizon_total", "past the horizon"],
     ["rr_pulls_seconds", "pulls", " s"],
     ["rr_save_seconds", "save", " s"],
+    ["rr_journal_sync_age_seconds", "since the last sync", " s"],
 ];
 
 // Each chosen key, with its colour and its rows.
@@ -70,7 +73,7 @@ async function ask(path, parameters = {}) {
 async function rowsOf(key) {
     const range = Number(at("range").value);
     const resolution = at("resolution").value || Math.max(1, Math.floor(range / POINTS_WANTED));
-    const text = await ask("/fetch", { cf: at("cf").value, resolution, last: range, key });
+    const text = await ask("fetch", { cf: at("cf").value, resolution, last: range, key });
     return text.split("\n").slice(0, -1).map((line) => {
         const [second, value] = line.split(",").slice(-2);
         return { second: Number(second), value: value === "U" ? null : value };
@@ -80,7 +83,7 @@ async function rowsOf(key) {
 async function listKeys(after) {
     const parameters = { prefix: at("search").value, count: KEYS_AT_ONCE };
     if (after !== null) parameters.after = after;
-    const keys = (await ask("/series", parameters)).split("\n").slice(0, -1);
+    const keys = (await ask("series", parameters)).split("\n").slice(0, -1);
     if (after === null) at("series").replaceChildren();
     for (const key of keys) {
         const button = make("button", { type: "button", "aria-pressed": chosen.has(key) }, key);
@@ -93,9 +96,10 @@ async function listKeys(after) {
 
 async function showState() {
     const counts = new Map();
-    for (const line of (await ask("/metrics")).split("\n")) {
+    for (const line of (await ask("metrics")).split("\n")) {
         const [, name, labels, value] = /^([a-z_]+)(\{.*\})? (\S+)$/.exec(line) ?? [];
         if (name === "rr_archive_rows") offerResolution(/"(\d+)"/.exec(labels)[1]);
+        else if (labels) counts.set(name, Number(counts.get(name) ?? 0) + Number(value));
         else if (name) counts.set(name, value);
     }
     const shown = STATE.filter(([name]) => counts.has(name));

@@ -1,13 +1,14 @@
-//! The keys of series, and how many of them are asked for.
+//! The keys of series, and which of them are asked for.
 
-ghost use Rattle.std.specs.Prelude.{◌≡◌, ◌-◌, ◌++◌, filter, length, take, IfOk, OnOk, codes};
+ghost use Rattle.std.specs.Prelude.{◌≡◌, ◌⊎◌, ◌-◌, ◌++◌, filter, length, take, IfErr, IfOk, OnOk, codes};
 ghost use Rattle.std.specs.List.{flat_map};
 ghost use Rattle.rr_text.specs.Text.{number_at};
 ghost use Rattle.rr_web.specs.Query.{parameter_of};
-ghost use Rattle.rr_web.specs.Series.{begins_with, count_at, count_fault_name, count_in, line_of};
+ghost use Rattle.rr_web.specs.Series.{IsNoKey, begins_with, count_at, count_fault_name, count_in, is_past};
+ghost use Rattle.rr_web.specs.Series.{line_of, prefix_of};
 
 use crate::query::parameter;
-use rr_key::SeriesKey;
+use rr_key::{KeyFault, SeriesKey};
 use rr_text::bytes::LINE_FEED;
 use rr_text::text::number;
 use std::alloc::{AllocError, Global};
@@ -95,4 +96,51 @@ pub fn push_keys(
         }
     }
     Ok(left)
+}
+
+/// The key that a query names as its `after`, if it names one.
+pub(crate) fn after_in(alloc: Global, query: &[u8]) -> Result<Option<SeriesKey>, KeyFault>
+    ensures found { IfOk result (λ key. key ≡ parameter_of query.now (codes "after")) }
+    ensures refused { IfErr result (λ fault. (fault ≡ KeyFault.Memory)
+        ⊎ ((fault ≡ KeyFault.BadKey) × IsNoKey (parameter_of query.now (codes "after")))) }
+{
+    match parameter(alloc, query, b"after") {
+        Ok(Some(text)) => match SeriesKey::parse_text(alloc, &text) {
+            Ok(key) => Ok(Some(key)),
+            Err(fault) => Err(fault),
+        },
+        Ok(None) => Ok(None),
+        Err(_) => Err(KeyFault::Memory),
+    }
+}
+
+/// The text that a query names as its `prefix`; an empty one if it names none.
+pub(crate) fn prefix_in(alloc: Global, query: &[u8]) -> Result<Vec<u8>, AllocError>
+    ensures { IfOk result (λ prefix. prefix.items ≡ prefix_of query.now) }
+{
+    match parameter(alloc, query, b"prefix")? {
+        Some(prefix) => Ok(prefix),
+        None => Ok(Vec::new(alloc)),
+    }
+}
+
+/// Whether a key is behind all those that begin with a prefix.
+pub(crate) fn is_past(key: &SeriesKey, prefix: &[u8]) -> bool
+    ensures { result ≡ is_past prefix.now key.now }
+{
+    if key.text().starts_with(prefix) {
+        return false;
+    }
+    key.text().cmp(prefix).is_gt()
+}
+
+/// The lines of keys.
+pub(crate) fn lines_of(alloc: Global, keys: &[SeriesKey]) -> Result<Vec<u8>, AllocError>
+    ensures { IfOk result (λ text. text.items ≡ flat_map line_of keys.now) }
+{
+    let mut text = Vec::new(alloc);
+    for key in keys {
+        push_key(&mut text, key.text())?;
+    }
+    Ok(text)
 }

@@ -1,7 +1,8 @@
 //! Replies that give what was asked for.
 
 ghost use Rattle.std.specs.Prelude.{◌≡◌, IfOk};
-ghost use Rattle.rr_web.specs.Reply.{reply_of, reply_view};
+ghost use Rattle.rr_web.specs.Ask.{page_kind};
+ghost use Rattle.rr_web.specs.Reply.{IsFound, reply_of, reply_view};
 
 use crate::ask::Ask;
 use crate::page::PAGE;
@@ -22,7 +23,9 @@ pub fn found(alloc: Global, kind: Kind, text: &str) -> Result<Reply, AllocError>
 }
 
 /// The page, its script or its style; the page for any other ask.
-pub fn page_reply(alloc: Global, ask: Ask) -> Result<Reply, AllocError> {
+pub fn page_reply(alloc: Global, ask: Ask) -> Result<Reply, AllocError>
+    ensures { IfOk result (λ reply. IsFound (page_kind ask) (reply_view reply)) }
+{
     match ask {
         Ask::Script => found(alloc, Kind::Script, SCRIPT),
         Ask::Style => found(alloc, Kind::Style, STYLE),

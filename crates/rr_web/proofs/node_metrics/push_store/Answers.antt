@@ -1,0 +1,8 @@
+-- One family is added behind the other.
+use Rattle.std.proofs.Common.{append_assoc}
+use Rattle.rr_web.proofs.node_metrics.push_store.Goals as goal
+
+pub returns : goal.returns
+returns c =
+    simp append_assoc at
+    (rw (c.in_ok-push_gauge.ensures) at c.push_gauge-2.ensures)
