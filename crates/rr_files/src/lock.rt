@@ -1,0 +1,21 @@
+//! The lock of a directory.
+
+use std::fs::{File, TryLockError};
+use std::io;
+
+/// A file that can be locked, so that one process alone uses a directory.
+pub trait TryLock {
+    /// Takes the lock, which is held as long as the file is open, and answers whether no other holds
+    /// it. The system lets go of it when the process ends, however that is.
+    fn take_lock(&self) -> io::Result<bool>;
+}
+
+impl TryLock for File {
+    fn take_lock(&self) -> io::Result<bool> {
+        match self.try_lock() {
+            Ok(()) => Ok(true),
+            Err(TryLockError::WouldBlock) => Ok(false),
+            Err(TryLockError::Error(error)) => Err(error),
+        }
+    }
+}
