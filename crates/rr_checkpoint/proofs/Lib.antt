@@ -1,0 +1,5 @@
+pub mod TextLemmas
+pub mod WalkLemmas
+pub mod LawLemmas
+pub mod FileLemmas
+pub mod WholeLemmas
