@@ -13,3 +13,4 @@ pub mod EndsLemmas
 pub mod SeatsLemmas
 pub mod RoundsLemmas
 pub mod PullsLemmas
+pub mod LineStreamLemmas

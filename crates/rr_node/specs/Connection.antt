@@ -100,9 +100,8 @@ pub record Refuses (fault : LineFault) (result : Result Answer AllocError) : Typ
   pub read : OnOk result (fault ≢ Memory)
   pub count_fits : IfOk result IsFew
 
--- a connection can take in a piece: it hasn't ended, the number of pieces fits, and the piece is not too long
+-- a connection can take in a piece: the number of pieces fits, and the piece is not too long
 pub record ConnectionMayTake (c : Connection) (piece : List ℕ) : Type 0 where
-  pub going : c.feed.ended ≡ false
   pub pieces_fit : c.pieces + 1 < 2 ^ 32
   pub fits : length piece ≤ PIECE
 

@@ -9,6 +9,7 @@ pub mod Answering
 pub mod Lines
 pub mod Tally
 pub mod Connection
+pub mod LineStream
 pub mod Seats
 pub mod Round
 pub mod Rounds

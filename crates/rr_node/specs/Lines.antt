@@ -147,7 +147,13 @@ after rules keeper moments lines = fold (with_item rules) (served_at_start keepe
 abbrev pub count_text : List ℕ → ℕ → List ℕ
 count_text word count = word ++ decimal count
 
--- points P samples S refused R
+-- points P samples S refused R, without a line feed
+abbrev pub report_line : Report → List ℕ
+report_line r =
+    count_text (codes "points ") r.points ++ count_text (codes " samples ") r.samples
+    ++ count_text (codes " refused ") r.refused
+
+-- the same as a line
 abbrev pub report_text : Report → List ℕ
 report_text r =
     count_text (codes "points ") r.points ++ count_text (codes " samples ") r.samples

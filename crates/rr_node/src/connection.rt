@@ -1,6 +1,6 @@
 //! Lines of a connection as they come in pieces, handed to the keeper.
 
-ghost use Rattle.std.specs.Prelude.{◌≡◌, ◌≢◌, ℕ, ◌+◌, ◌*◌, ◌<◌, ◌≤◌, ◌^◌, ℤ, true, List, [], ◌++◌, length, OnOk, OnErr};
+ghost use Rattle.std.specs.Prelude.{◌≡◌, ◌≢◌, ℕ, ◌+◌, ◌*◌, ◌<◌, ◌≤◌, ◌^◌, ℤ, false, true, List, [], ◌++◌, length, OnOk, OnErr};
 ghost use Rattle.rr_text.specs.declared.limits.TheConstants.{MAX_FIELDS};
 ghost use Rattle.rr_feed.specs.declared.piece.TheConstants.{PIECE};
 ghost use Rattle.rr_host.specs.Clock.{HasGiven};
@@ -46,6 +46,7 @@ pub(crate) struct Connection {
 
 impl Connection {
     ghost use Rattle.rr_node.specs.Connection.{AnswersLines, Finishes, IsFew, IsNew, ConnectionMayTake, ConnectionTakesPiece, ServedAllItems, StoppedByMemory, counted_in, text_to};
+    ghost use Rattle.rr_feed.specs.Feed.{state};
 
     /// No line came yet.
     pub(crate) fn new(alloc: Global, rules: Rules) -> Connection
@@ -66,7 +67,31 @@ impl Connection {
         }
     }
 
-    /// Takes in a piece.
+    /// Whether it takes in no further piece, since their number would not fit.
+    pub(crate) fn is_closed(&self) -> bool
+        ensures { result ≡ false → self.now.pieces + 1 < 2 ^ 32 }
+    {
+        self.pieces == u32::MAX
+    }
+
+    /// What became of the lines so far.
+    pub(crate) fn report(&self) -> Report
+        ensures { result ≡ self.now.report }
+    {
+        self.report
+    }
+
+    /// Ends the input: a last line without a line feed is then whole.
+    pub(crate) fn end(&mut self)
+        ensures feed { self.new.feed ≡ state self.old.feed.left self.old.feed.skipping true }
+        ensures lines { self.new.lines ≡ self.old.lines }
+        ensures report { self.new.report ≡ self.old.report }
+        ensures rules { self.new.rules ≡ self.old.rules }
+    {
+        self.feed.end();
+    }
+
+    /// Takes in a piece. It is refused once the input has ended, and where memory runs out.
     pub(crate) fn push(&mut self, piece: &[u8]) -> Result<(), AllocError>
         requires { ConnectionMayTake self.old piece.now }
         ensures { OnOk result (ConnectionTakesPiece self.old self.new piece.now) }
@@ -121,7 +146,7 @@ impl Connection {
     }
 
     /// Hands the lines that came to the keeper, and adds what is answered to them.
-    fn write_lines<A: Cells, C: Clock, T: Wait>(
+    pub(crate) fn write_lines<A: Cells, C: Clock, T: Wait>(
         &mut self,
         answers: &mut Vec<u8>,
         keeper: &mut Keeper<A>,

@@ -1,7 +1,7 @@
 //! What became of the lines of a connection, as numbers.
 
 ghost use Rattle.std.specs.Prelude.{◌≡◌, ◌++◌, OnOk};
-ghost use Rattle.rr_node.specs.Lines.{count_text, report_text};
+ghost use Rattle.rr_node.specs.Lines.{count_text, report_line, report_text};
 
 use itoa::Buffer;
 use std::alloc::AllocError;
@@ -26,12 +26,19 @@ fn push_count(text: &mut Vec<u8>, word: &[u8], count: u64) -> Result<(), AllocEr
     text.extend_from_slice(buffer.format(count).as_bytes())
 }
 
-/// Adds the line `points P samples S refused R`. After an `Err` some of it may be there.
-pub(crate) fn push_report(text: &mut Vec<u8>, report: &Report) -> Result<(), AllocError>
-    ensures { OnOk result (text.new.items ≡ text.old.items ++ report_text report.now) }
+/// Adds `points P samples S refused R`, without a line feed. After an `Err` some of it may be there.
+pub fn push_report_line(text: &mut Vec<u8>, report: &Report) -> Result<(), AllocError>
+    ensures { OnOk result (text.new.items ≡ text.old.items ++ report_line report.now) }
 {
     push_count(text, b"points ", report.points)?;
     push_count(text, b" samples ", report.samples)?;
-    push_count(text, b" refused ", report.refused)?;
+    push_count(text, b" refused ", report.refused)
+}
+
+/// Adds the line `points P samples S refused R`. After an `Err` some of it may be there.
+pub fn push_report(text: &mut Vec<u8>, report: &Report) -> Result<(), AllocError>
+    ensures { OnOk result (text.new.items ≡ text.old.items ++ report_text report.now) }
+{
+    push_report_line(text, report)?;
     text.extend_from_slice(b"\n")
 }

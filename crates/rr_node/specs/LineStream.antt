@@ -1,0 +1,60 @@
+-- The lines of a stream, as they are taken piece by piece.
+use Rattle.std.specs.Prelude.{◌≡◌, ℕ, ℤ, true, false, List, [], ◌++◌, length, count_by}
+use Rattle.rr_feed.specs.Feed.{items_left}
+use Rattle.rr_feed.specs.Items.{items}
+use Rattle.rr_desk.specs.KeeperState.{KeeperState}
+use Rattle.rr_node.specs.declared.line_stream.LineStream.{LineStream}
+use Rattle.rr_node.specs.declared.report.Report.{Report}
+use Rattle.rr_node.specs.declared.rules.Rules.{Rules}
+use Rattle.rr_node.specs.Connection.{HasServed, EndsWithin}
+use Rattle.rr_node.specs.Lines.{after, asks_clock}
+
+-- how its lines are taken
+abbrev pub rules_by : LineStream → Rules
+rules_by s = s.connection.rules
+
+-- what became of the lines that were taken
+abbrev pub report_of : LineStream → Report
+report_of s = s.connection.report
+
+-- the whole lines of these bytes were taken from a keeper on, with these moments, answers and what the keeper is now;
+-- the stream goes on
+pub record HasTaken (s : LineStream) (start : KeeperState) (bytes : List ℕ) (moments : List ℤ) (now : KeeperState)
+    (answers : List ℕ) : Type 0 where
+  pub served : HasServed s.connection start bytes moments now answers
+  pub whole : items_left s.connection.feed ≡ []
+  pub going : s.connection.feed.ended ≡ false
+
+-- a stream has taken these bytes more, whatever it had taken before
+pub record Takes (old new : LineStream) (before now : KeeperState) (bytes : List ℕ) (moments : List ℤ)
+    (answers : List ℕ) : Type 0 where
+  pub taken : (start : KeeperState) (came : List ℕ) (given : List ℤ) (answered : List ℕ)
+      → HasTaken old start came given before answered
+      → HasTaken new start (came ++ bytes) (given ++ moments) now (answered ++ answers)
+  pub rules : rules_by new ≡ rules_by old
+
+-- the inputs that begin so
+abbrev pub BeginsWith : List ℕ → List ℕ → Type 0
+BeginsWith first bytes = (more : List ℕ) × (bytes ≡ first ++ more)
+
+-- lines were taken up to some point within these bytes, whatever was taken before
+abbrev pub Stops : LineStream → KeeperState → KeeperState → List ℕ → List ℤ → Type 0
+Stops old before now bytes moments =
+    (start : KeeperState) (came : List ℕ) (given : List ℤ) (answered : List ℕ)
+    → HasTaken old start came given before answered
+    → EndsWithin (rules_by old) start now (BeginsWith (came ++ bytes)) (given ++ moments)
+
+-- all lines of an input were taken, with these moments
+pub record AreTaken (rules : Rules) (start now : KeeperState) (bytes : List ℕ) (moments : List ℤ) (answers : List ℕ)
+    (counted : Report) : Type 0 where
+  pub asked : length moments ≡ count_by (asks_clock rules) (items true bytes)
+  pub keeper : now ≡ (after rules start moments (items true bytes)).keeper
+  pub answered : answers ≡ (after rules start moments (items true bytes)).answers
+  pub report : counted ≡ (after rules start moments (items true bytes)).report
+
+-- a stream ended: all lines of the bytes that came were taken
+abbrev pub Ends : LineStream → KeeperState → KeeperState → List ℤ → List ℕ → Report → Type 0
+Ends old before now moments answers counted =
+    (start : KeeperState) (came : List ℕ) (given : List ℤ) (answered : List ℕ)
+    → HasTaken old start came given before answered
+    → AreTaken (rules_by old) start now came (given ++ moments) (answered ++ answers) counted
