@@ -107,6 +107,16 @@ impl Queue {
         }
     }
 
+    /// How many wait in it.
+    pub fn len<R: Wait>(&self, rt: &R) -> usize {
+        self.waiting.lock(rt).items.len()
+    }
+
+    /// Whether none waits in it.
+    pub fn is_empty<R: Wait>(&self, rt: &R) -> bool {
+        self.len(rt) == 0
+    }
+
     /// What waits in it.
     pub(crate) fn load<R: Wait>(&self, rt: &R) -> Load {
         self.waiting.lock(rt).load()

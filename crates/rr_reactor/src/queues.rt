@@ -5,7 +5,7 @@ use crate::queue::Queue;
 use mio::Waker;
 use std::alloc::{AllocError, Global};
 use std::mem;
-use std::sync::atomic::{AtomicBool, Ordering};
+use std::sync::atomic::{AtomicBool, AtomicUsize, Ordering};
 use std::sync::{Mutex, Wait};
 
 /// What a reactor shares with those who answer.
@@ -18,6 +18,8 @@ pub struct Queues {
     answers: Mutex<Vec<Answer>>,
     waker: Waker,
     is_halted: AtomicBool,
+    connections: AtomicUsize,
+    held: AtomicUsize,
 }
 
 impl Queues {
@@ -33,6 +35,8 @@ impl Queues {
             answers: Mutex::new(Vec::with_capacity(alloc, connections)?),
             waker,
             is_halted: AtomicBool::new(false),
+            connections: AtomicUsize::new(0),
+            held: AtomicUsize::new(0),
         })
     }
 
@@ -55,6 +59,22 @@ impl Queues {
     pub(crate) fn exchange_answers<R: Wait>(&self, rt: &R, none: &mut Vec<Answer>) {
         let mut answers = self.answers.lock(rt);
         mem::swap(&mut *answers, none);
+    }
+
+    /// Says how many connections there are, and how many bytes of memory are held for them.
+    pub(crate) fn tell(&self, connections: usize, held: usize) {
+        self.connections.store(connections, Ordering::SeqCst);
+        self.held.store(held, Ordering::SeqCst);
+    }
+
+    /// How many connections there are.
+    pub fn connections(&self) -> usize {
+        self.connections.load(Ordering::SeqCst)
+    }
+
+    /// How many bytes of memory are held for them.
+    pub fn held(&self) -> usize {
+        self.held.load(Ordering::SeqCst)
     }
 
     /// Ends the reactor, and those who answer.

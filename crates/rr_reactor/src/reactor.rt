@@ -185,6 +185,7 @@ impl Reactor {
         let writes = is_behind(&self.limits, queues.writes.load(rt), now);
         let fetches = is_behind(&self.limits, queues.fetches.load(rt), now);
         self.connections.set_behind(writes, fetches);
+        queues.tell(self.connections.len(), self.connections.held());
     }
 
     /// Waits until something is ready, and goes on with it.
