@@ -1,0 +1,26 @@
+//! The writes of a node's connections: taken by its keeper, committed to its journal, and only then
+//! acknowledged.
+//!
+//! ```text
+//! items ── Writer::take ──> samples, pending in the keeper; and a Pending for each item
+//! Pendings ── commit_batch ──> published, and committed to the journal ──> an Answer for each item
+//! ```
+//!
+//! A batch is what waits when the keeper looks: bodies of requests, and pieces of lines of any number
+//! of connections. [`Writer`] takes their lines; what is to be answered waits as a [`Pending`], which
+//! [`commit_batch`] turns into an answer once it is known whether the batch is in the journal, and
+//! synced. So one sync serves all that waited, and nothing is acknowledged that a crash could lose.
+#![tactic(auto)]
+
+mod answering;
+mod committing;
+mod fault;
+mod origin;
+mod pending;
+mod writer;
+
+pub use committing::{Answers, commit_batch};
+pub use fault::BatchFault;
+pub use origin::commit_origin;
+pub use pending::{Pending, Waiting};
+pub use writer::{MAX_REFUSALS, Writer};

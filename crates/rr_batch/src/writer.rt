@@ -1,0 +1,188 @@
+//! Who takes the writes of a node's connections.
+
+ghost use Rattle.std.specs.Prelude.{◌≡◌, IfOk};
+ghost use Rattle.rr_connection.specs.Requests.{request_view};
+ghost use Rattle.rr_batch.specs.Answers.{pending_view};
+
+use crate::fault::BatchFault;
+use crate::pending::{Pending, Waiting};
+use rr_archive::Cells;
+use rr_connection::{Piece, Request};
+use rr_desk::Keeper;
+use rr_host::Clock;
+use rr_line::Precision;
+use rr_node::{LineStream, NodeFault, Report, take_text};
+use rr_reactor::{Item, Work};
+use rr_web::refused_write;
+use std::alloc::Global;
+use std::collections::BTreeMap;
+use std::sync::Wait;
+
+/// How many bytes of the refusals of one body are kept: the first ones.
+pub const MAX_REFUSALS: usize = 65_536;
+
+const _: () = prove!(MAX_REFUSALS == 65_536);
+
+/// Who takes the writes of a node's connections: bodies, whose lines stand alone, and pieces of
+/// lines, which go on where the piece of the same connection before them ended.
+#[derive(Drop)]
+pub struct Writer {
+    alloc: Global,
+    precision: Precision,
+    lead: Option<u64>,
+    /// The lines of each connection of lines, by its key, from its first piece on.
+    streams: BTreeMap<usize, LineStream>,
+    /// What became of the lines of all items.
+    tally: Report,
+}
+
+/// What became of lines, and of others that came to more than these.
+fn sum(tally: Report, before: Report, after: Report) -> Report {
+    Report {
+        points: more(tally.points, before.points, after.points),
+        samples: more(tally.samples, before.samples, after.samples),
+        refused: more(tally.refused, before.refused, after.refused),
+    }
+}
+
+/// A count, and what another one has grown by. It stops at its greatest value.
+fn more(count: u64, before: u64, after: u64) -> u64 {
+    count.saturating_add(after.saturating_sub(before))
+}
+
+/// Nothing became of no lines.
+const NONE: Report = Report {
+    points: 0,
+    samples: 0,
+    refused: 0,
+};
+
+impl Writer {
+    ghost use Rattle.rr_batch.specs.Taking.{OfRequest, TakesRequest, rules_in};
+
+    /// A writer to which no item came. The times of lines have this precision, and may be ahead of
+    /// the clock by `lead` nanoseconds, or by any where that is missing.
+    pub fn new(alloc: Global, precision: Precision, lead: Option<u64>) -> Writer {
+        Writer {
+            alloc,
+            precision,
+            lead,
+            streams: BTreeMap::new(alloc),
+            tally: NONE,
+        }
+    }
+
+    /// What became of the lines of all items since the start.
+    pub fn tally(&self) -> Report {
+        self.tally
+    }
+
+    /// Takes the lines of a request's body, unless the request is refused.
+    fn take_request<A: Cells, C: Clock, T: Wait>(
+        &mut self,
+        request: &Request,
+        keeper: &mut Keeper<A>,
+        clock: &mut C,
+        rt: &T,
+    ) -> Result<Pending, BatchFault>
+        ensures { IfOk result (λ p. TakesRequest self.old.precision (rules_in self.old)
+            (request_view request.now) (record {
+              before = keeper.old;
+              now = keeper.new;
+              given = C.given clock.old;
+              since = C.given clock.new;
+            }) (pending_view p)) }
+    {
+        if let Some(reply) = refused_write(self.alloc, request, self.precision)? {
+            return Ok(Pending::Decided(reply));
+        }
+        match take_text(
+            self.alloc,
+            &request.body,
+            MAX_REFUSALS,
+            keeper,
+            clock,
+            self.precision,
+            self.lead,
+            rt,
+        ) {
+            Ok(taken) => {
+                self.tally = sum(self.tally, NONE, taken.report);
+                Ok(Pending::Body(taken))
+            }
+            Err(_) => Err(BatchFault::Memory),
+        }
+    }
+
+    /// The lines of a connection, up to its next piece.
+    fn stream(&mut self, key: usize, is_first: bool) -> LineStream {
+        match self.streams.remove(&key) {
+            Some(stream) if !is_first => stream,
+            _ => LineStream::new(self.alloc, self.precision, self.lead),
+        }
+    }
+
+    /// Takes the lines of a piece of a connection.
+    fn take_piece<A: Cells, C: Clock, T: Wait>(
+        &mut self,
+        key: usize,
+        piece: &Piece,
+        keeper: &mut Keeper<A>,
+        clock: &mut C,
+        rt: &T,
+    ) -> Result<Pending, BatchFault> {
+        let mut stream = self.stream(key, piece.is_first);
+        let before = stream.report();
+        let mut refusals = Vec::new(self.alloc);
+        match stream.take(&piece.text, usize::MAX, &mut refusals, keeper, clock, rt) {
+            Ok(()) => {}
+            Err(NodeFault::TooManyReads) => return Ok(Pending::Closed),
+            Err(_) => return Err(BatchFault::Memory),
+        }
+        if !piece.is_last {
+            self.tally = sum(self.tally, before, stream.report());
+            self.streams.insert(key, stream)?;
+            return Ok(Pending::Lines {
+                refusals,
+                report: None,
+            });
+        }
+        match stream.end(usize::MAX, &mut refusals, keeper, clock, rt) {
+            Ok(report) => {
+                self.tally = sum(self.tally, before, report);
+                Ok(Pending::Lines {
+                    refusals,
+                    report: Some(report),
+                })
+            }
+            Err(_) => Err(BatchFault::Memory),
+        }
+    }
+
+    /// Takes an item: the lines of its body or of its piece are handed to the keeper, where they are
+    /// pending; the answer to the item waits until they are committed. Refused as `Memory`: some
+    /// lines may be pending then, and the node can't go on.
+    pub fn take<A: Cells, C: Clock, T: Wait>(
+        &mut self,
+        item: Item,
+        keeper: &mut Keeper<A>,
+        clock: &mut C,
+        rt: &T,
+    ) -> Result<Waiting, BatchFault>
+        ensures key { IfOk result (λ w. w.key ≡ item.key) }
+        ensures request { IfOk result (λ w. OfRequest item.work (λ r. TakesRequest
+            self.old.precision (rules_in self.old) r (record {
+              before = keeper.old;
+              now = keeper.new;
+              given = C.given clock.old;
+              since = C.given clock.new;
+            }) (pending_view w.pending))) }
+    {
+        let key = item.key;
+        let pending = match item.work {
+            Work::Request(request) => self.take_request(&request, keeper, clock, rt)?,
+            Work::Piece(piece) => self.take_piece(key, &piece, keeper, clock, rt)?,
+        };
+        Ok(Waiting { key, pending })
+    }
+}
