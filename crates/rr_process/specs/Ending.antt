@@ -24,4 +24,5 @@ status_of (ending.WordsRefused text) = 2
 status_of (ending.ConfigRefused name) = 2
 status_of (ending.LoadRefused name) = 2
 status_of ending.BadAddress = 3
+status_of ending.Stopped = 3
 status_of (ending.Failed fault) = 3

@@ -23,6 +23,8 @@ pub enum Ending {
     LoadRefused(&'static str),
     /// An address can't be listened on.
     BadAddress,
+    /// A node can't start or go on, for a reason that was told.
+    Stopped,
     /// The order can't be obeyed.
     Failed(ToolFault),
 }
@@ -49,14 +51,16 @@ impl Ending {
             Ending::Done => 0,
             Ending::LinesRefused | Ending::DirectoryRefused => 1,
             Ending::WordsRefused(_) | Ending::ConfigRefused(_) | Ending::LoadRefused(_) => 2,
-            Ending::BadAddress | Ending::Failed(_) => 3,
+            Ending::BadAddress | Ending::Stopped | Ending::Failed(_) => 3,
         }
     }
 
     /// Prints on standard error why the order isn't obeyed; nothing where it is.
     pub fn print(&self, rt: &impl Eprint) -> io::Result<()> {
         match self {
-            Ending::Done | Ending::LinesRefused | Ending::DirectoryRefused => Ok(()),
+            Ending::Done | Ending::LinesRefused | Ending::DirectoryRefused | Ending::Stopped => {
+                Ok(())
+            }
             Ending::WordsRefused(text) => rt.eprint(text),
             Ending::ConfigRefused(name) => eprintln!(rt; "config: {name}"),
             Ending::LoadRefused(name) => eprintln!(rt; "load: {name}"),

@@ -41,6 +41,6 @@ pub fn obey_order<R: Read, W: Write>(
             let refused = check_lines(alloc, input, output, *precision, *now)?;
             Ok(Ending::of_lines(refused))
         }
-        Order::Serve { .. } | Order::Journal { .. } => Ok(Ending::Done),
+        Order::Serve { .. } | Order::Node { .. } | Order::Journal { .. } => Ok(Ending::Done),
     }
 }
