@@ -1,6 +1,6 @@
 //! The files that a node begins with.
 
-use rr_config::{Config, ConfigFault, remarks};
+use rr_config::{Config, ConfigFault, NodeConfig, node_remarks, remarks};
 use rr_io::Counted;
 use rr_packed::PackedArchive;
 use rr_process::{Ending, ToolFault, file_fault};
@@ -14,7 +14,7 @@ use std::rt::Files;
 
 /// Tells the operator what is to be said of a file. If this can't be printed, the node still does
 /// what it does.
-fn tell(rt: &impl Eprint, file: &str, text: impl Display + Drop) {
+pub(crate) fn tell(rt: &impl Eprint, file: &str, text: impl Display + Drop) {
     let _printed = eprintln!(rt; "rr: {file}: {text}");
 }
 
@@ -47,9 +47,32 @@ pub(crate) fn read_config(
     }
 }
 
+/// The configuration of a node with a directory, in a file. The ending says why there is none. What
+/// is to be said of its text is told.
+pub(crate) fn read_node_config(
+    rt: &(impl AllocGlobal + Files + Eprint),
+    file: &str,
+) -> Result<NodeConfig, Ending> {
+    let text = match fs::read(rt, file) {
+        Ok(text) => text,
+        Err(error) => return Err(Ending::Failed(file_fault(rt, file, &error))),
+    };
+    // If there is no memory for them, they are left out.
+    if let Ok(lines) = node_remarks(rt.alloc(), &text) {
+        for line in &lines {
+            tell(rt, file, line.as_str());
+        }
+    }
+    match NodeConfig::from_toml(rt.alloc(), &text) {
+        Ok(config) => Ok(config),
+        Err(ConfigFault::Memory) => Err(Ending::Failed(ToolFault::Memory)),
+        Err(fault) => Err(Ending::ConfigRefused(fault.name())),
+    }
+}
+
 /// The replica that a snapshot in a file is loaded as, with its rows ready to be shared by the
 /// copies of a desk.
-fn load_replica(
+pub(crate) fn load_replica(
     rt: &(impl AllocGlobal + Files + Eprint),
     file: &str,
     schema: &Schema,

@@ -2,7 +2,7 @@
 
 use rr_archive::Cells;
 use rr_command_line::VERSION;
-use rr_config::Config;
+use rr_config::{Config, NodeConfig};
 use rr_replica::Replica;
 use rr_schema::Origin;
 use std::alloc::{AllocError, Global};
@@ -37,6 +37,23 @@ pub(crate) fn greeting<A: Cells>(
     for address in &config.fetch {
         text.push(' ')?;
         text.push_str(address.as_str())?;
+    }
+    let (series, cells) = (series_count(replica), replica.cell_count());
+    write!(text, " series {series} cells {cells}")?;
+    Ok(text)
+}
+
+/// The line of a node with a directory that starts with a replica.
+pub(crate) fn node_greeting<A: Cells>(
+    alloc: Global,
+    config: &NodeConfig,
+    replica: &Replica<A>,
+) -> Result<String, AllocError> {
+    let (origin, http) = (replica.origin().get(), config.http.as_str());
+    let mut text = format!(in alloc; "rr: version {VERSION} origin {origin} http {http}")?;
+    if let Some(lines) = &config.lines {
+        text.push_str(" lines ")?;
+        text.push_str(lines.as_str())?;
     }
     let (series, cells) = (series_count(replica), replica.cell_count());
     write!(text, " series {series} cells {cells}")?;

@@ -24,6 +24,7 @@ mod front;
 mod greeting;
 mod journal;
 mod listeners;
+mod node;
 mod places;
 mod plain;
 mod program;
@@ -36,6 +37,7 @@ mod tools;
 mod web;
 
 pub use clock::SystemClock;
+pub use node::Checkpointing;
 pub use program::run;
 pub use seats::TcpSeats;
 pub use shelf::FileShelf;

@@ -1,7 +1,9 @@
 //! The order of a process's words, obeyed.
 
 use crate::journal::read_directory;
+use crate::node::{Checkpointing, serve_node_of};
 use crate::server::Server;
+use rr_files::TryLock;
 use rr_process::{Ending, obey, read_order};
 use rr_words::Order;
 use std::env::Env;
@@ -20,6 +22,13 @@ pub(crate) fn lent(text: &Option<String>) -> Option<&str> {
     }
 }
 
+/// How a node ended, whether or not it began.
+fn ended(served: Result<Ending, Ending>) -> Ending {
+    match served {
+        Ok(ending) | Err(ending) => ending,
+    }
+}
+
 /// Obeys the order of the process's own words, and says how that ended.
 ///
 /// A node's configuration is read first, then the snapshot to begin with, then it listens on its
@@ -29,6 +38,7 @@ where
     R: AllocGlobal
         + Env
         + Files
+        + Checkpointing
         + Input
         + Print
         + Eprint
@@ -38,6 +48,7 @@ where
         + Threads
         + Wait
         + Sync,
+    R::File: TryLock,
 {
     let order = match read_order(rt) {
         Ok(order) => order,
@@ -50,6 +61,9 @@ where
             load,
             save,
         } => (config, *origin, load, save),
+        Order::Node { config, data, load } => {
+            return ended(serve_node_of(rt, config.as_str(), data.as_str(), lent(load)));
+        }
         Order::Journal { what, folder } => return read_directory(rt, *what, folder.as_str()),
         _ => return obey(rt, &order),
     };
@@ -57,7 +71,5 @@ where
         Ok(server) => server.serve(origin, lent(load)),
         Err(ending) => Err(ending),
     };
-    match served {
-        Ok(ending) | Err(ending) => ending,
-    }
+    ended(served)
 }

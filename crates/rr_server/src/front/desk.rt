@@ -244,7 +244,10 @@ impl<T: Wait + time::Clock> Clerk<'_, T> {
 
     /// The answer to a request.
     fn reply(&mut self, request: &Request<Bytes>) -> Result<Reply, AllocError> {
-        match asked_by(request.method().as_str(), request.uri().path()) {
+        match asked_by(
+            request.method().as_str().as_bytes(),
+            request.uri().path().as_bytes(),
+        ) {
             Ask::Write => self.write(request),
             Ask::Fetch => self.fetch(request),
             Ask::Series => self.series(request),

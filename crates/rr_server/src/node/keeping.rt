@@ -1,0 +1,233 @@
+//! The keeper of a node: batches of writes, taken, committed and answered.
+
+use crate::files::tell;
+use crate::node::logbook::Logbook;
+use crate::node::numbers::Numbers;
+use crate::node::shared::{Answered, Desired, Shared};
+use crate::server::OUT_OF_MEMORY;
+use rr_batch::{Answers, BatchFault, Waiting, Writer, commit_batch};
+use rr_command_line::PRODUCT;
+use rr_desk::Keeper;
+use rr_files::DataDirectory;
+use rr_host::Clock;
+use rr_packed::PackedArchive;
+use rr_process::Ending;
+use rr_reactor::{Answer, Item, Queues};
+use std::alloc::{AllocError, Global};
+use std::fs::OpenFile;
+use std::io::{Seek, Write};
+use std::rt::Files;
+use std::sync::Wait;
+use std::time;
+use std::time::Duration;
+
+/// A batch takes no further item where it has as many bytes: 8 MiB.
+const BATCH: usize = 8 * 1024 * 1024;
+
+/// What who keeps remembers from batch to batch.
+#[derive(Drop)]
+pub(crate) struct Keeping<F> {
+    pub(crate) alloc: Global,
+    pub(crate) writer: Writer,
+    pub(crate) logbook: Logbook<F>,
+    pub(crate) numbers: Numbers,
+    pub(crate) shared: Shared,
+    /// Whether what the keeper holds is in the journal.
+    pub(crate) is_saved: bool,
+}
+
+/// The items that wait, but for what is beyond a batch; none where none came within a second.
+fn gather<R: Wait + time::Clock>(
+    rt: &R,
+    alloc: Global,
+    queues: &Queues,
+) -> Result<Vec<Item>, AllocError> {
+    let mut items = Vec::new(alloc);
+    let mut bytes = 0usize;
+    let mut timeout = Duration::from_secs(1);
+    for _ in 0..u64::MAX {
+        if bytes >= BATCH {
+            break;
+        }
+        let Some(item) = queues.writes.take(rt, timeout) else {
+            break;
+        };
+        bytes = bytes.saturating_add(item.work.held()).saturating_add(1);
+        items.push(item)?;
+        timeout = Duration::ZERO;
+    }
+    Ok(items)
+}
+
+/// Takes the lines of items.
+fn take_all<C: Clock, R: Wait>(
+    rt: &R,
+    alloc: Global,
+    writer: &mut Writer,
+    items: Vec<Item>,
+    keeper: &mut Keeper<PackedArchive>,
+    clock: &mut C,
+) -> Result<Vec<Waiting>, BatchFault> {
+    let mut batch = Vec::with_capacity(alloc, items.len())?;
+    for item in items {
+        batch.push(writer.take(item, keeper, clock, rt)?)?;
+    }
+    Ok(batch)
+}
+
+/// Hands answers on, and counts them.
+fn answer_all<R: Wait>(rt: &R, shared: &Shared, answers: Vec<Answer>) {
+    let queues: &Queues = &shared.queues;
+    let answered: &Answered = &shared.answered;
+    for answer in answers {
+        answered.count_answer(&answer);
+        queues.answer(rt, answer);
+    }
+}
+
+impl<F: Write + Seek + OpenFile + Drop> Keeping<F> {
+    /// Commits a batch.
+    fn commit<R: Files<File = F> + Wait>(
+        &mut self,
+        rt: &R,
+        keeper: &mut Keeper<PackedArchive>,
+        batch: Vec<Waiting>,
+    ) -> Result<Answers, BatchFault> {
+        let logbook = &mut self.logbook;
+        commit_batch(
+            self.alloc,
+            batch,
+            PRODUCT,
+            keeper,
+            &mut logbook.journal,
+            &mut logbook.cursor,
+            rt,
+        )
+    }
+
+    /// Says whether anything can be acknowledged, and tells where that has changed.
+    fn tell_health<R: Eprint + time::Clock>(&mut self, rt: &R, path: &str) {
+        let was_failing = self.shared.is_failing.is_raised();
+        if self.is_saved {
+            self.numbers.is_synced(rt);
+            if was_failing {
+                self.shared.is_failing.take();
+                tell(rt, path, "the journal is written again");
+            }
+            return;
+        }
+        self.numbers.append_failed();
+        if !was_failing {
+            self.shared.is_failing.raise();
+            let text = "the journal can't be written: nothing is acknowledged until it can";
+            tell(rt, path, text);
+        }
+    }
+
+    /// Notes how the last checkpoint has ended.
+    fn note_checkpoint<R: Wait + time::Clock>(&mut self, rt: &R) {
+        let checkpoints: &Desired = &self.shared.checkpoints;
+        let Some(ended) = checkpoints.ended(rt) else {
+            return;
+        };
+        self.logbook.is_asked = false;
+        if let Some(bytes) = ended {
+            self.logbook.checkpoint = bytes;
+            self.numbers.checkpoint_ended(rt, bytes);
+        }
+    }
+
+    /// Begins another file of the journal and asks for a checkpoint, where one is due. Where the file
+    /// can't be made, the journal goes on in the one that there is.
+    fn ask_for_checkpoint<R: Files<File = F> + Eprint + Wait>(
+        &mut self,
+        rt: &R,
+        path: &str,
+        keeper: &Keeper<PackedArchive>,
+    ) {
+        if !self.is_saved || !self.logbook.is_due() {
+            return;
+        }
+        let begins = self.logbook.cursor;
+        self.logbook.since = begins.offset;
+        let directory = DataDirectory::at(rt, path);
+        match directory.create_journal(self.alloc, &begins, keeper.schema()) {
+            Ok(journal) => {
+                self.logbook.journal = journal;
+                self.logbook.is_asked = true;
+                let checkpoints: &Desired = &self.shared.checkpoints;
+                checkpoints.ask(rt, begins);
+            }
+            Err(error) => tell(rt, path, error),
+        }
+    }
+
+    /// Takes items, commits and answers them.
+    fn take<C: Clock, R: Files<File = F> + Eprint + Wait + time::Clock>(
+        &mut self,
+        rt: &R,
+        path: &str,
+        keeper: &mut Keeper<PackedArchive>,
+        clock: &mut C,
+        items: Vec<Item>,
+    ) -> Result<(), BatchFault> {
+        let batch = take_all(rt, self.alloc, &mut self.writer, items, keeper, clock)?;
+        let Answers { answers, is_saved } = self.commit(rt, keeper, batch)?;
+        self.is_saved = is_saved;
+        self.tell_health(rt, path);
+        answer_all(rt, &self.shared, answers);
+        self.ask_for_checkpoint(rt, path, keeper);
+        Ok(())
+    }
+
+    /// Takes what waits, commits and answers it.
+    fn round<C: Clock, R: Files<File = F> + Eprint + Wait + time::Clock>(
+        &mut self,
+        rt: &R,
+        path: &str,
+        keeper: &mut Keeper<PackedArchive>,
+        clock: &mut C,
+    ) -> Result<(), BatchFault> {
+        let items = gather(rt, self.alloc, &self.shared.queues)?;
+        if !items.is_empty() || !self.is_saved {
+            self.take(rt, path, keeper, clock, items)?;
+        }
+        self.note_checkpoint(rt);
+        let (tally, offset) = (self.writer.tally(), self.logbook.cursor.offset);
+        self.numbers
+            .post(rt, self.alloc, keeper, tally, offset, &self.shared);
+        Ok(())
+    }
+
+    /// Whether another thread of the node has ended.
+    fn is_halted(&self) -> bool {
+        let queues: &Queues = &self.shared.queues;
+        queues.is_halted()
+    }
+
+    /// Keeps until the node can't go on, or another thread of it has ended.
+    pub(crate) fn serve<C: Clock, R: Files<File = F> + Eprint + Wait + time::Clock>(
+        &mut self,
+        rt: &R,
+        path: &str,
+        keeper: &mut Keeper<PackedArchive>,
+        clock: &mut C,
+    ) -> Ending {
+        for _ in 0..u64::MAX {
+            if self.is_halted() {
+                break;
+            }
+            match self.round(rt, path, keeper, clock) {
+                Ok(()) => {}
+                Err(BatchFault::NotSynced) => {
+                    let text =
+                        "the journal can't be synced: the next start reads what the disk has";
+                    tell(rt, path, text);
+                    break;
+                }
+                Err(BatchFault::Memory) => return OUT_OF_MEMORY,
+            }
+        }
+        Ending::Stopped
+    }
+}

@@ -1,0 +1,162 @@
+//! The numbers of a node, for those who watch it.
+
+use crate::node::shared::{Answered, Shared};
+use rr_command_line::VERSION;
+use rr_desk::Keeper;
+use rr_node::Report;
+use rr_packed::PackedArchive;
+use rr_schema::Origin;
+use rr_web::{AnswerCounts, NodeMetrics, RefusedLines, archive_rows, metrics_text};
+use std::alloc::{AllocError, Global};
+use std::sync::Wait;
+use std::sync::atomic::Ordering;
+use std::time::{Clock, Duration, Instant};
+
+/// Once in how many seconds cells are counted at most, which takes time for each series.
+const CELLS_EVERY: u64 = 10;
+
+/// What a keeper remembers for the numbers of its node.
+#[derive(Drop)]
+pub(crate) struct Numbers {
+    origin: Origin,
+    failed_appends: u64,
+    cells: usize,
+    /// When cells were counted last.
+    counted: Option<Instant>,
+    /// When the numbers were put up last.
+    posted: Option<Instant>,
+    /// When the journal was synced last.
+    synced: Option<Instant>,
+    /// When the last checkpoint ended, and its bytes.
+    checkpoint: Option<(Instant, u64)>,
+}
+
+/// Whether so much time is past since a moment; so it is if there is none.
+fn is_past(clock: &impl Clock, since: &Option<Instant>, span: Duration) -> bool {
+    match since {
+        Some(since) => since.elapsed(clock).unwrap_or(span) >= span,
+        None => true,
+    }
+}
+
+/// The milliseconds since a moment.
+fn age(clock: &impl Clock, since: &Instant) -> u64 {
+    let elapsed = since.elapsed(clock).unwrap_or(Duration::ZERO);
+    u64::try_from(elapsed.as_millis()).unwrap_or(u64::MAX)
+}
+
+impl Numbers {
+    /// Those of a node that has just begun under an origin.
+    pub(crate) fn new(origin: Origin) -> Numbers {
+        Numbers {
+            origin,
+            failed_appends: 0,
+            cells: 0,
+            counted: None,
+            posted: None,
+            synced: None,
+            checkpoint: None,
+        }
+    }
+
+    /// Counts an append that failed.
+    pub(crate) fn append_failed(&mut self) {
+        self.failed_appends = self.failed_appends.saturating_add(1);
+    }
+
+    /// Notes that the journal is synced now.
+    pub(crate) fn is_synced(&mut self, clock: &impl Clock) {
+        self.synced = Instant::now(clock).ok();
+    }
+
+    /// Notes that a checkpoint of so many bytes has ended.
+    pub(crate) fn checkpoint_ended(&mut self, clock: &impl Clock, bytes: u64) {
+        self.checkpoint = match Instant::now(clock) {
+            Ok(now) => Some((now, bytes)),
+            Err(_) => None,
+        };
+    }
+
+    /// Counts the cells, at most every ten seconds.
+    fn count_cells(&mut self, clock: &impl Clock, keeper: &Keeper<PackedArchive>) {
+        if is_past(clock, &self.counted, Duration::from_secs(CELLS_EVERY)) {
+            self.cells = keeper.cell_count();
+            self.counted = Instant::now(clock).ok();
+        }
+    }
+
+    /// The numbers as they stand.
+    fn metrics<R: Wait + Clock>(
+        &self,
+        rt: &R,
+        alloc: Global,
+        keeper: &Keeper<PackedArchive>,
+        tally: Report,
+        offset: u64,
+        shared: &Shared,
+    ) -> Result<NodeMetrics, AllocError> {
+        let answered: &Answered = &shared.answered;
+        let mut refused = Vec::new(alloc);
+        refused.push(RefusedLines {
+            fault: "any",
+            lines: tally.refused,
+        })?;
+        Ok(NodeMetrics {
+            version: VERSION,
+            origin: u64::from(self.origin.get()),
+            archives: archive_rows(alloc, keeper.schema())?,
+            series: shared.series.load(Ordering::SeqCst),
+            cells: self.cells as u64,
+            connections: shared.queues.connections() as u64,
+            connection_bytes: shared.queues.held() as u64,
+            queued_writes: shared.queues.writes.len(rt) as u64,
+            answers: AnswerCounts {
+                done: answered.done.load(Ordering::SeqCst),
+                refused: answered.refused.load(Ordering::SeqCst),
+                failed: answered.failed.load(Ordering::SeqCst),
+            },
+            points: tally.points,
+            samples: tally.samples,
+            refused,
+            past_horizon: keeper.past_horizon(),
+            journal_offset: offset,
+            journal_synced: offset,
+            journal_sync_age: match &self.synced {
+                Some(synced) => Some(age(rt, synced)),
+                None => None,
+            },
+            failed_appends: self.failed_appends,
+            checkpoint_bytes: match &self.checkpoint {
+                Some((_, bytes)) => Some(*bytes),
+                None => None,
+            },
+            checkpoint_age: match &self.checkpoint {
+                Some((ended, _)) => Some(age(rt, ended)),
+                None => None,
+            },
+        })
+    }
+
+    /// Puts the numbers up, at most once a second.
+    pub(crate) fn post<R: Wait + Clock>(
+        &mut self,
+        rt: &R,
+        alloc: Global,
+        keeper: &Keeper<PackedArchive>,
+        tally: Report,
+        offset: u64,
+        shared: &Shared,
+    ) {
+        if !is_past(rt, &self.posted, Duration::from_secs(1)) {
+            return;
+        }
+        self.posted = Instant::now(rt).ok();
+        self.count_cells(rt, keeper);
+        // If there is no memory for them, the last ones stay.
+        if let Ok(metrics) = self.metrics(rt, alloc, keeper, tally, offset, shared)
+            && let Ok(text) = metrics_text(alloc, &metrics)
+        {
+            shared.metrics.put(rt, text);
+        }
+    }
+}

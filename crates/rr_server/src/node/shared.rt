@@ -1,0 +1,150 @@
+//! What the threads of a node share.
+
+use crate::signals::{Flag, SharedText};
+use rr_journal::Cursor;
+use rr_reactor::{Answer, Outcome, Queues};
+use std::alloc::{AllocError, Global};
+use std::sync::atomic::{AtomicU64, Ordering};
+use std::sync::{Arc, Condvar, Mutex, Wait};
+use std::time::{Clock, Duration};
+
+/// How far the checkpoint is that was asked for last.
+#[derive(Drop)]
+enum Stage {
+    /// None is asked for.
+    Idle,
+    /// One is asked for, after which the journal is read from this place on.
+    Asked(Cursor),
+    /// It is being written.
+    Begun,
+    /// It has ended: with so many bytes, or it failed.
+    Ended(Option<u64>),
+}
+
+/// Through which a keeper asks for checkpoints, one at a time.
+#[derive(Drop)]
+pub(crate) struct Desired {
+    stage: Mutex<Stage>,
+    changed: Condvar,
+}
+
+impl Desired {
+    /// None is asked for.
+    fn new() -> Desired {
+        Desired {
+            stage: Mutex::new(Stage::Idle),
+            changed: Condvar::new(),
+        }
+    }
+
+    /// Asks for one. None may be under way.
+    pub(crate) fn ask<R: Wait>(&self, rt: &R, begins: Cursor) {
+        *self.stage.lock(rt) = Stage::Asked(begins);
+        self.changed.notify_one();
+    }
+
+    /// Waits for at most so long for one that is asked for, and begins it.
+    pub(crate) fn begin<R: Wait + Clock>(&self, rt: &R, timeout: Duration) -> Option<Cursor> {
+        let (mut stage, _timed_out) = self
+            .changed
+            .wait_timeout_while(rt, self.stage.lock(rt), timeout, |stage| {
+                !matches!(stage, Stage::Asked(_))
+            });
+        match std::mem::replace(&mut *stage, Stage::Begun) {
+            Stage::Asked(begins) => Some(begins),
+            other => {
+                *stage = other;
+                None
+            }
+        }
+    }
+
+    /// Says how the one that was begun has ended: with so many bytes, or it failed.
+    pub(crate) fn end<R: Wait>(&self, rt: &R, bytes: Option<u64>) {
+        *self.stage.lock(rt) = Stage::Ended(bytes);
+    }
+
+    /// How the last one has ended, once.
+    pub(crate) fn ended<R: Wait>(&self, rt: &R) -> Option<Option<u64>> {
+        let mut stage = self.stage.lock(rt);
+        match std::mem::replace(&mut *stage, Stage::Idle) {
+            Stage::Ended(bytes) => Some(bytes),
+            other => {
+                *stage = other;
+                None
+            }
+        }
+    }
+}
+
+/// How many requests were answered, by the hundreds of their statuses.
+#[derive(Drop)]
+pub(crate) struct Answered {
+    pub(crate) done: AtomicU64,
+    pub(crate) refused: AtomicU64,
+    pub(crate) failed: AtomicU64,
+}
+
+impl Answered {
+    /// Counts an answer.
+    pub(crate) fn count(&self, status: u16) {
+        let count = match status {
+            0..=399 => &self.done,
+            400..=499 => &self.refused,
+            _ => &self.failed,
+        };
+        count.fetch_add(1, Ordering::SeqCst);
+    }
+
+    /// Counts the answer to an item, if it is a reply.
+    pub(crate) fn count_answer(&self, answer: &Answer) {
+        if let Outcome::Reply(reply) = &answer.outcome {
+            self.count(reply.status);
+        }
+    }
+}
+
+/// What the threads of a node share.
+#[derive(Drop)]
+pub(crate) struct Shared {
+    pub(crate) queues: Arc<Queues>,
+    /// The numbers of the node, as its keeper puts them up.
+    pub(crate) metrics: SharedText,
+    /// Whether nothing can be acknowledged now.
+    pub(crate) is_failing: Flag,
+    pub(crate) answered: Arc<Answered>,
+    pub(crate) checkpoints: Arc<Desired>,
+    /// How many series there are, as they were counted last.
+    pub(crate) series: Arc<AtomicU64>,
+}
+
+impl Shared {
+    /// What the threads of a node share whose reactor has these queues.
+    pub(crate) fn new(alloc: Global, queues: Arc<Queues>) -> Result<Shared, AllocError> {
+        let answered = Answered {
+            done: AtomicU64::new(0),
+            refused: AtomicU64::new(0),
+            failed: AtomicU64::new(0),
+        };
+        Ok(Shared {
+            queues,
+            metrics: SharedText::new(alloc)?,
+            is_failing: Flag::new(alloc)?,
+            answered: Arc::new(alloc, answered)?,
+            checkpoints: Arc::new(alloc, Desired::new())?,
+            series: Arc::new(alloc, AtomicU64::new(0))?,
+        })
+    }
+
+    /// The same, for one more thread.
+    pub(crate) fn share(&self) -> Result<Shared, AllocError> {
+        Ok(Shared {
+            queues: Arc::try_clone(&self.queues)?,
+            metrics: self.metrics.share()?,
+            is_failing: self.is_failing.share()?,
+            answered: Arc::try_clone(&self.answered)?,
+            checkpoints: Arc::try_clone(&self.checkpoints)?,
+            series: Arc::try_clone(&self.series)?,
+        })
+    }
+}
