@@ -28,7 +28,7 @@ pub(crate) fn all_remarks(alloc: Global, input: &[u8]) -> Result<Vec<u8>, AllocE
     Ok(output.into_bytes())
 }
 
-fn push_lines(output: &mut String, lines: &[String]) -> Result<(), AllocError> {
+pub(crate) fn push_lines(output: &mut String, lines: &[String]) -> Result<(), AllocError> {
     for line in lines {
         push_line(output, line.as_str())?;
     }
@@ -55,7 +55,7 @@ fn push_config(output: &mut String, config: &Config) -> Result<(), AllocError> {
 }
 
 /// Adds a setting, after its name.
-fn push_setting<D: Display + Drop>(
+pub(crate) fn push_setting<D: Display + Drop>(
     output: &mut String,
     name: &str,
     value: D,
@@ -64,7 +64,7 @@ fn push_setting<D: Display + Drop>(
 }
 
 /// Adds a setting that may be missing.
-fn push_some<D: Display + Drop>(
+pub(crate) fn push_some<D: Display + Drop>(
     output: &mut String,
     name: &str,
     value: Option<D>,
@@ -76,7 +76,11 @@ fn push_some<D: Display + Drop>(
 }
 
 /// Adds a word if it is said.
-fn push_given(output: &mut String, word: &str, is_given: bool) -> Result<(), AllocError> {
+pub(crate) fn push_given(
+    output: &mut String,
+    word: &str,
+    is_given: bool,
+) -> Result<(), AllocError> {
     if is_given {
         output.push_str(word)
     } else {
@@ -114,7 +118,11 @@ fn push_times(output: &mut String, config: &Config) -> Result<(), AllocError> {
 }
 
 /// Adds texts after a name.
-fn push_texts(output: &mut String, name: &str, texts: &[String]) -> Result<(), AllocError> {
+pub(crate) fn push_texts(
+    output: &mut String,
+    name: &str,
+    texts: &[String],
+) -> Result<(), AllocError> {
     output.push_str(name)?;
     for text in texts {
         output.push(' ')?;
@@ -123,7 +131,7 @@ fn push_texts(output: &mut String, name: &str, texts: &[String]) -> Result<(), A
     Ok(())
 }
 
-fn name_of(precision: Precision) -> &'static str {
+pub(crate) fn name_of(precision: Precision) -> &'static str {
     match precision {
         Precision::Ns => "ns",
         Precision::Us => "us",

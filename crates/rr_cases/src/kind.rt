@@ -1,7 +1,8 @@
 //! The kinds of cases.
 
 use crate::{
-    cells, configs, desks, documents, faults, journals, keys, lines, pages, replicas, scripts,
+    cells, configs, desks, documents, faults, journals, keys, lines, node_configs, pages, replicas,
+    scripts,
 };
 use anyhow::{Result, bail};
 use rr_archive::Cells;
@@ -27,6 +28,10 @@ pub(crate) enum Kind {
     Configs,
     /// Configurations as TOML texts, and what an operator is told of each.
     Remarks,
+    /// Configurations of a node with a directory as TOML texts, and what each is read as.
+    NodeConfigs,
+    /// The same, and what an operator is told of each.
+    NodeRemarks,
     /// The word of some faults, and their names and sentences.
     Faults,
     /// Key texts, a line each, and which of them are.
@@ -52,6 +57,8 @@ impl Kind {
             "toml" => Some(Kind::Documents),
             "config" => Some(Kind::Configs),
             "remarks" => Some(Kind::Remarks),
+            "node" => Some(Kind::NodeConfigs),
+            "node_remarks" => Some(Kind::NodeRemarks),
             "faults" => Some(Kind::Faults),
             "keys" => Some(Kind::Keys),
             "hex" => Some(Kind::Cell),
@@ -125,6 +132,8 @@ impl Kind {
             Kind::Documents => Ok(documents::answers(alloc, input)?),
             Kind::Configs => Ok(configs::answers(alloc, input)?),
             Kind::Remarks => Ok(configs::all_remarks(alloc, input)?),
+            Kind::NodeConfigs => Ok(node_configs::answers(alloc, input)?),
+            Kind::NodeRemarks => Ok(node_configs::all_remarks(alloc, input)?),
             Kind::Faults => faults::answers(alloc, input),
             Kind::Keys => Ok(keys::answers(alloc, input)?),
             Kind::Cell => cells::answers(alloc, input),

@@ -22,6 +22,7 @@ mod journals;
 mod keys;
 mod kind;
 mod lines;
+mod node_configs;
 mod operations;
 mod pages;
 mod printed;

@@ -1,10 +1,13 @@
 mod archives;
 mod asked;
+mod batches;
 mod changes;
+mod checkpoints;
 mod clocks;
 mod commits;
 mod connections;
 mod cut;
+mod data_directory;
 mod desk;
 mod directory;
 mod faults;

@@ -1,5 +1,9 @@
 //! A stand-in for the process of the program.
 
+use rr_desk::Reader;
+use rr_journal::Cursor;
+use rr_packed::PackedArchive;
+use rr_server::Checkpointing;
 use std::alloc::{Allocator, Global};
 use std::env::{Env, FillError};
 use std::fmt::Display;
@@ -188,6 +192,18 @@ impl<R: Net<Listener = TcpListener, Stream = TcpStream>> Net for Process<'_, R> 
     fn connect_timeout(&self, addr: SocketAddr, timeout: Duration) -> io::Result<TcpStream> {
         let address = self.listener(addr.port())?.local_addr()?;
         self.host.connect_timeout(address, timeout)
+    }
+}
+
+impl<R: Checkpointing> Checkpointing for Process<'_, R> {
+    fn checkpoint(
+        &self,
+        alloc: Global,
+        reader: &mut Reader<PackedArchive>,
+        path: &str,
+        begins: Cursor,
+    ) -> io::Result<u64> {
+        self.host.checkpoint(alloc, reader, path, begins)
     }
 }
 

@@ -1,0 +1,118 @@
+//! Batches of writes: what their items are answered where the journal is written, and where it isn't.
+
+use super::journal::start;
+use rr_batch::{Writer, commit_batch};
+use rr_connection::{Piece, Request};
+use rr_desk::{Keeper, open};
+use rr_fakes::clock::Moments;
+use rr_fakes::replicas::minutes;
+use rr_journal::MemoryJournal;
+use rr_line::Precision;
+use rr_packed::PackedArchive;
+use rr_reactor::{Answer, Item, Outcome, Work};
+use std::alloc::{AllocError, Global};
+use std::sync::Wait;
+
+/// A request to write two lines, of which one is refused.
+fn body(alloc: Global) -> Result<Work, AllocError> {
+    Ok(Work::Request(Request {
+        method: Vec::from_slice(alloc, b"POST")?,
+        target: Vec::from_slice(alloc, b"/write?db=x")?,
+        is_encoded: false,
+        body: Vec::from_slice(alloc, b"m v=1i 0\nm v=1\n")?,
+    }))
+}
+
+/// A piece of a connection of lines, and whether it is the first and the last one.
+fn piece(alloc: Global, text: &[u8], is_first: bool, is_last: bool) -> Result<Work, AllocError> {
+    Ok(Work::Piece(Piece {
+        text: Vec::from_slice(alloc, text)?,
+        is_first,
+        is_last,
+    }))
+}
+
+/// The items of a body, and of a connection that another one had before it.
+fn items(alloc: Global) -> Result<Vec<Item>, AllocError> {
+    let mut items = Vec::new(alloc);
+    for (key, work) in [
+        (1, body(alloc)?),
+        (2, piece(alloc, b"a v=1i 0\n", true, false)?),
+        (2, piece(alloc, b"a v=x 0\n", false, false)?),
+        (2, piece(alloc, b"a v=2i 1\nb", true, true)?),
+    ] {
+        items.push(Item { key, came: 0, work })?;
+    }
+    Ok(items)
+}
+
+/// Adds an answer, and a bar behind it.
+fn push_answer(alloc: Global, text: &mut Vec<u8>, answer: &Answer) -> Result<(), AllocError> {
+    match &answer.outcome {
+        Outcome::Reply(reply) => {
+            let status = format!(in alloc; "{} ", reply.status)?;
+            text.extend_from_slice(status.as_bytes())?;
+            text.extend_from_slice(&reply.body)?;
+        }
+        Outcome::Text(bytes) => text.extend_from_slice(bytes)?,
+        Outcome::Nothing => text.extend_from_slice(b"closed")?,
+    }
+    text.push(b'|')?;
+    Ok(())
+}
+
+/// What the items are answered over a journal of which the call after so many others fails.
+fn answers_of<R: Wait>(
+    rt: &R,
+    alloc: Global,
+    keeper: &mut Keeper<PackedArchive>,
+    calls: u64,
+) -> Result<Vec<u8>, AllocError> {
+    let mut writer = Writer::new(alloc, Precision::Ns, None);
+    let mut clock = Moments::new(Vec::new(alloc));
+    let mut batch = Vec::new(alloc);
+    for item in items(alloc)? {
+        match writer.take(item, keeper, &mut clock, rt) {
+            Ok(waiting) => batch.push(waiting)?,
+            Err(_) => return Err(AllocError),
+        }
+    }
+    let mut journal = MemoryJournal::new(Vec::new(alloc)).failing(calls);
+    let mut cursor = start();
+    let Ok(answers) = commit_batch(alloc, batch, "rr-2", keeper, &mut journal, &mut cursor, rt)
+    else {
+        return Err(AllocError);
+    };
+    let mut text = Vec::new(alloc);
+    for answer in &answers.answers {
+        push_answer(alloc, &mut text, answer)?;
+    }
+    Ok(text)
+}
+
+/// What a keeper that was just opened answers, over a journal of which that call fails.
+fn answered<R: Wait>(rt: &R, alloc: Global, calls: u64) -> Option<Vec<u8>> {
+    let (mut keeper, _readers) = open(alloc, rt, minutes(alloc, 1, 3).ok()?, 1).ok()?;
+    let text = answers_of(rt, alloc, &mut keeper, calls);
+    keeper.close(rt);
+    text.ok()
+}
+
+/// What is answered where the journal is written.
+const SAVED: &[u8] =
+    b"400 {\"error\":\"partial write: line 2: FloatField; points 1 samples 1 refused 1\"}\n|\
+    |line 2: BadField\n|line 2: NoFields\npoints 1 samples 1 refused 1\n|";
+
+/// And where it isn't.
+const UNSAVED: &[u8] =
+    b"500 {\"error\":\"the lines are taken, but not saved\"}\n||line 2: BadField\n|closed|";
+
+#[test]
+fn lines_are_acknowledged_only_once_they_are_synced(rt: HostRuntime) {
+    let saved = answered(&rt, rt.alloc(), u64::MAX);
+    let unsaved = answered(&rt, rt.alloc(), 0);
+    assert_eq!(rt;
+        (saved.as_deref(), unsaved.as_deref()),
+        (Some(SAVED), Some(UNSAVED))
+    );
+}
