@@ -44,13 +44,11 @@ impl Signals {
     }
 }
 
-/// The listeners of a node: one for lines, one for each reader of an address of its own, and one
-/// for each seat of HTTP; and what its threads share.
+/// The listeners of a node: one for lines, and one for each reader; and what its threads share.
 #[derive(Drop)]
 pub(crate) struct Listeners {
     pub(crate) lines: Listening,
     pub(crate) fetches: Vec<Listening>,
-    pub(crate) web: Vec<Listening>,
     pub(crate) signals: Signals,
 }
 
@@ -60,26 +58,17 @@ impl Listeners {
         rt: &(impl AllocGlobal + Eprint + Net<Listener = TcpListener, Stream = TcpStream>),
         config: &Config,
     ) -> Result<Listeners, Ending> {
-        let Ok(signals) = Signals::new(rt.alloc(), threads(config)) else {
+        // One thread keeps, and each address of fetches has one.
+        let threads = config.fetch.len().saturating_add(1);
+        let Ok(signals) = Signals::new(rt.alloc(), threads) else {
             return Err(OUT_OF_MEMORY);
         };
         Ok(Listeners {
             lines: listen_for_lines(rt, config, &signals)?,
             fetches: listen_for_fetches(rt, config, &signals)?,
-            web: listen_for_web(rt, config, &signals)?,
             signals,
         })
     }
-}
-
-/// How many threads a node has: one that keeps, one for each address of fetches, and with HTTP one
-/// for connections of lines and one for each seat.
-fn threads(config: &Config) -> usize {
-    let web = match &config.http {
-        Some(http) => (http.seats as usize).saturating_add(1),
-        None => 0,
-    };
-    config.fetch.len().saturating_add(1).saturating_add(web)
 }
 
 /// Listens on the address of lines.
@@ -89,12 +78,7 @@ fn listen_for_lines(
     signals: &Signals,
 ) -> Result<Listening, Ending> {
     let address = config.lines.as_str();
-    // With HTTP the keeper waits at a queue, and not here.
-    let every = match config.http {
-        Some(_) => None,
-        None => config.every,
-    };
-    listen_at(rt, address, bind(rt, address)?, config.idle, every, signals)
+    listen_at(rt, address, config.idle, config.every, signals)
 }
 
 /// Listens on the addresses of fetches.
@@ -120,45 +104,10 @@ fn listen_for_fetch(
     idle: Option<u64>,
     signals: &Signals,
 ) -> Result<Listening, Ending> {
-    let listening = listen_at(rt, address, bind(rt, address)?, idle, None, signals)?;
+    let listening = listen_at(rt, address, idle, None, signals)?;
     match signals.schema_differs.share() {
         Ok(schema_differs) => Ok(listening.with_schema_flag(schema_differs)),
         Err(_) => Err(OUT_OF_MEMORY),
-    }
-}
-
-/// Listens on the address of HTTP, if there is one, with a listener for each seat.
-fn listen_for_web(
-    rt: &(impl AllocGlobal + Eprint + Net<Listener = TcpListener, Stream = TcpStream>),
-    config: &Config,
-    signals: &Signals,
-) -> Result<Vec<Listening>, Ending> {
-    let mut seats = Vec::new(rt.alloc());
-    let Some(http) = &config.http else {
-        return Ok(seats);
-    };
-    let address = http.address.as_str();
-    let listener = bind(rt, address)?;
-    for _ in 0..http.seats {
-        let listening = listen_at_clone(rt, address, &listener, config.idle, signals)?;
-        if seats.push(listening).is_err() {
-            return Err(OUT_OF_MEMORY);
-        }
-    }
-    Ok(seats)
-}
-
-/// Listens with a listener that others listen with too.
-fn listen_at_clone(
-    rt: &(impl AllocGlobal + Eprint),
-    address: &str,
-    listener: &TcpListener,
-    idle: Option<u64>,
-    signals: &Signals,
-) -> Result<Listening, Ending> {
-    match listener.try_clone() {
-        Ok(listener) => listen_at(rt, address, listener, idle, None, signals),
-        Err(error) => Err(ending_of(rt, address, &error)),
     }
 }
 
@@ -175,29 +124,21 @@ fn ending_of(rt: &impl Eprint, address: &str, error: &io::Error) -> Ending {
     }
 }
 
-/// Binds a listener to an address.
-fn bind(
-    rt: &(impl Eprint + Net<Listener = TcpListener, Stream = TcpStream>),
-    address: &str,
-) -> Result<TcpListener, Ending> {
-    match TcpListener::bind(rt, address) {
-        Ok(listener) => Ok(listener),
-        Err(error) => Err(ending_of(rt, address, &error)),
-    }
-}
-
 /// Listens at an address, whose connections may be silent for the idle time, until the flag is
 /// raised, or for an interval where one is named. The first is taken once all threads have begun.
 fn listen_at(
-    rt: &(impl AllocGlobal + Eprint),
+    rt: &(impl AllocGlobal + Eprint + Net<Listener = TcpListener, Stream = TcpStream>),
     address: &str,
-    listener: TcpListener,
     idle: Option<u64>,
     every: Option<u64>,
     signals: &Signals,
 ) -> Result<Listening, Ending> {
     let Ok(waiting) = signals.waiting(every) else {
         return Err(OUT_OF_MEMORY);
+    };
+    let listener = match TcpListener::bind(rt, address) {
+        Ok(listener) => listener,
+        Err(error) => return Err(ending_of(rt, address, &error)),
     };
     match Listening::new(rt.alloc(), listener, idle, waiting) {
         Ok(listening) => Ok(listening),

@@ -1,11 +1,11 @@
 //! A node at work: a keeper and its readers, over TCP.
 
+use crate::endpoints::{Endpoints, work};
 use crate::files::{check_folder, first_replica, read_config, tell_replaced};
 use crate::greeting::greeting;
 use crate::listeners::Listeners;
-use crate::plain::{Plain, work};
-use crate::tools::{Parts, Tools};
-use rr_config::{Config, ConfigFault};
+use crate::tools::Tools;
+use rr_config::Config;
 use rr_desk::{Keeper, Reader, open};
 use rr_packed::PackedArchive;
 use rr_process::{Ending, ToolFault};
@@ -56,31 +56,16 @@ where
     /// and visits are done. If there is no folder for the snapshots that are to be saved, it
     /// doesn't begin; if one is there that it doesn't begin with, that is told.
     pub(crate) fn serve(&self, origin: Origin, load: Option<&str>) -> Result<Ending, Ending> {
-        match self.save {
-            Some(file) => {
-                check_folder(self.rt, file)?;
-                if load.is_none() {
-                    tell_replaced(self.rt, file);
-                }
+        if let Some(file) = self.save {
+            check_folder(self.rt, file)?;
+            if load.is_none() {
+                tell_replaced(self.rt, file);
             }
-            None => self.check_unsaved()?,
         }
         let replica = first_replica(self.rt, &self.config.schema, origin, load)?;
         let listeners = Listeners::bind(self.rt, &self.config)?;
         self.greet(&replica);
         Ok(self.serve_replica(replica, listeners))
-    }
-
-    /// Refuses a configuration whose writes would wait for a save that never comes.
-    fn check_unsaved(&self) -> Result<(), Ending> {
-        match &self.config.http {
-            Some(http) if http.durable => {
-                // If this can't be printed, the ending still says what is missing.
-                let _printed = eprintln!(self.rt; "rr: durable: there is no --save");
-                Err(Ending::ConfigRefused(ConfigFault::MissingField.name()))
-            }
-            _ => Ok(()),
-        }
     }
 
     /// Says with what it starts, unless it is to be quiet.
@@ -94,18 +79,13 @@ where
         }
     }
 
-    /// Opens a desk over a replica, with a reader for each address of fetches and each seat of
-    /// HTTP, and serves at it.
+    /// Opens a desk over a replica, with a reader for each address of fetches, and serves at it.
     fn serve_replica(&self, replica: Replica<PackedArchive>, listeners: Listeners) -> Ending {
-        let origin = replica.origin();
-        let readers = listeners.fetches.len().saturating_add(listeners.web.len());
+        let readers = listeners.fetches.len();
         let Ok((mut keeper, readers)) = open(self.rt.alloc(), self.rt, replica, readers) else {
             return OUT_OF_MEMORY;
         };
-        let served = match &self.config.http {
-            Some(http) => self.serve_web(http, origin, &mut keeper, readers, listeners),
-            None => self.serve_plain(&mut keeper, readers, listeners),
-        };
+        let served = self.serve_desk(&mut keeper, readers, listeners);
         keeper.close(self.rt);
         match served {
             Ok(ending) => ending,
@@ -113,32 +93,22 @@ where
         }
     }
 
-    /// Serves with a keeper that takes lines where they come, and with its readers.
-    fn serve_plain(
+    /// Serves with a keeper, which takes lines where they come, and with its readers.
+    fn serve_desk(
         &self,
         keeper: &mut Keeper<PackedArchive>,
         readers: Vec<Reader<PackedArchive>>,
         listeners: Listeners,
     ) -> Result<Ending, AllocError> {
-        let plain = Plain::new(self.rt.alloc(), readers, listeners)?;
-        let parts = Parts::new(self.rt, &self.config, self.save, &plain.halt)?;
-        let Plain {
+        let alloc = self.rt.alloc();
+        let Endpoints {
             mut lines,
             mut seats,
-            halt,
-            save_requested,
-            schema_differs,
-        } = plain;
-        let mut tools = Tools::new(
-            self.rt,
-            self.config.every,
-            parts,
-            halt,
-            save_requested,
-            schema_differs,
-        );
+            signals,
+        } = Endpoints::new(alloc, readers, listeners)?;
+        let mut tools = Tools::new(self.rt, &self.config, self.save, signals)?;
         Ok(work(
-            self.rt.alloc(),
+            alloc,
             keeper,
             &mut lines,
             &mut seats,

@@ -2,7 +2,7 @@
 //!
 //! ```text
 //! PacedShelf ── a snapshot that is due ──> FileShelf ──> the file, in the place of the last one
-//!     └──────── the counts of rounds ────> RoundLog ───> a line, a file of counts, metrics
+//!     └──────── the counts of rounds ────> RoundLog ───> a line, a file of counts
 //! ```
 //!
 //! Nothing is known of files.

@@ -2,20 +2,17 @@
 //!
 //! A [`HaltFlag`] ends the node before its time. A [`Flag`] asks for a snapshot before its time, or
 //! says that a peer of another schema pulled. In a [`SharedText`] one thread puts a text that
-//! others read, and by [`SaveNews`] they learn what became of a save. At a [`StartBarrier`] the
-//! threads wait for each other before they take a connection, and by [`Waiting`] they wait for one.
+//! others read. At a [`StartBarrier`] the threads wait for each other before they take a connection, and by [`Waiting`] they wait for one.
 //! Nothing is known of the calls of other threads.
 
 mod flag;
 mod halt;
-mod saves;
 mod shared_text;
 mod start;
 mod waiting;
 
 pub(crate) use flag::Flag;
 pub use halt::HaltFlag;
-pub use saves::{SaveNews, Saved};
 pub(crate) use shared_text::SharedText;
 pub use start::StartBarrier;
 pub(crate) use start::pause;

@@ -1,42 +1,16 @@
 //! What the keeper of a node works with.
 
 use crate::clock::SystemClock;
+use crate::listeners::Signals;
 use crate::program::lent;
 use crate::shelf::{FileShelf, PacedShelf, RoundLog};
-use crate::signals::{Flag, HaltFlag, SaveNews, SharedText};
+use crate::signals::HaltFlag;
 use crate::tcp::{Calling, PacedDial};
 use rr_config::Config;
 use std::alloc::AllocError;
 use std::net::{Net, TcpStream};
 use std::rt::Files;
-use std::sync::Wait;
 use std::time::Clock;
-
-/// What reaches the peers, the file that snapshots are saved to, and what is said of rounds.
-#[derive(Drop)]
-pub(crate) struct Parts<'c, 'a, R> {
-    pub(crate) dial: PacedDial<'c, R, Calling<'a, R>>,
-    pub(crate) files: FileShelf<'a, R>,
-    pub(crate) log: RoundLog<'a, R>,
-}
-
-impl<'c, 'a, R: Files + Eprint + Clock + Wait> Parts<'c, 'a, R> {
-    /// The same parts, of which the log gives the metrics too.
-    pub(crate) fn with_metrics(self, metrics: SharedText) -> Parts<'c, 'a, R> {
-        Parts {
-            log: self.log.with_metrics(metrics),
-            ..self
-        }
-    }
-
-    /// The same parts, of which the file also tells how each save ended.
-    pub(crate) fn with_news(self, news: SaveNews) -> Parts<'c, 'a, R> {
-        Parts {
-            files: self.files.with_news(news),
-            ..self
-        }
-    }
-}
 
 /// What the keeper of a node works with, beside its visits and its seats.
 #[derive(Drop)]
@@ -66,7 +40,7 @@ where
 }
 
 /// What is said of rounds.
-fn log<'a, R: AllocGlobal + Files + Eprint + Clock + Wait>(
+fn log<'a, R: AllocGlobal + Files + Eprint + Clock>(
     rt: &'a R,
     config: &Config,
 ) -> Result<RoundLog<'a, R>, AllocError> {
@@ -74,43 +48,33 @@ fn log<'a, R: AllocGlobal + Files + Eprint + Clock + Wait>(
     RoundLog::new(rt, rt.alloc(), prints, lent(&config.status))
 }
 
-impl<'c, 'a, R> Parts<'c, 'a, R>
+impl<'c, 'a, R> Tools<'c, 'a, R>
 where
-    R: AllocGlobal + Files + Eprint + Net<Stream = TcpStream> + Clock + Wait,
+    R: AllocGlobal + Files + Eprint + Net<Stream = TcpStream> + Clock,
     'a: 'c,
 {
-    /// What a keeper's tools are made of.
+    /// The tools of a keeper. Its shelf takes snapshots at most once an interval unless one is
+    /// requested, and says so where a peer of another schema pulled.
     pub(crate) fn new(
         rt: &'a R,
         config: &'c Config,
         save: Option<&str>,
-        halt: &HaltFlag,
-    ) -> Result<Parts<'c, 'a, R>, AllocError> {
-        Ok(Parts {
-            dial: dial(rt, config, halt)?,
-            files: FileShelf::new(rt, rt.alloc(), save)?,
-            log: log(rt, config)?,
-        })
-    }
-}
-
-impl<'c, 'a, R: Files + Eprint + Clock + Wait> Tools<'c, 'a, R> {
-    /// The tools of a keeper, made of their parts. Its shelf takes snapshots at most once an
-    /// interval unless one is requested, and says so where a peer of another schema pulled.
-    pub(crate) fn new(
-        rt: &'a R,
-        every: Option<u64>,
-        parts: Parts<'c, 'a, R>,
-        halt: HaltFlag,
-        save_requested: Flag,
-        schema_differs: Flag,
-    ) -> Tools<'c, 'a, R> {
-        let Parts { dial, files, log } = parts;
-        Tools {
+        signals: Signals,
+    ) -> Result<Tools<'c, 'a, R>, AllocError> {
+        let dial = dial(rt, config, &signals.halt)?;
+        let files = FileShelf::new(rt, rt.alloc(), save)?;
+        let log = log(rt, config)?;
+        let Signals {
+            halt,
+            save_requested,
+            schema_differs,
+            ..
+        } = signals;
+        Ok(Tools {
             dial,
-            shelf: PacedShelf::new(rt, files, every, save_requested, schema_differs, log),
+            shelf: PacedShelf::new(rt, files, config.every, save_requested, schema_differs, log),
             halt,
             clock: SystemClock::new(rt),
-        }
+        })
     }
 }

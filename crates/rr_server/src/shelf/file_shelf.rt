@@ -2,7 +2,6 @@
 
 use super::replaced::Replaced;
 use super::save_file::SaveFile;
-use crate::signals::{SaveNews, Saved};
 use rr_io::Counted;
 use rr_node::{NodeFault, Opening, Report, Shelf};
 use rr_snapshot::SaveFault;
@@ -25,8 +24,6 @@ pub struct FileShelf<'a, R> {
     file: Option<Replaced<'a, R>>,
     /// The numbers of the peers of which `own origin` was printed.
     met: Vec<usize>,
-    /// Where it is told how each save ended, if anyone waits for that.
-    news: Option<SaveNews>,
 }
 
 impl<'a, R: Files + Eprint> FileShelf<'a, R> {
@@ -44,29 +41,7 @@ impl<'a, R: Files + Eprint> FileShelf<'a, R> {
             rt,
             file,
             met: Vec::new(alloc),
-            news: None,
         })
-    }
-
-    /// The same shelf, which also tells how each save ended.
-    pub fn with_news(self, news: SaveNews) -> FileShelf<'a, R> {
-        FileShelf {
-            news: Some(news),
-            ..self
-        }
-    }
-
-    fn tell(&self, saved: Saved) {
-        if let Some(news) = &self.news {
-            news.tell(saved);
-        }
-    }
-
-    fn save_is_lost(&self, fault: SaveFault) {
-        let name = fault.name();
-        // If this can't be printed, there is no one to tell.
-        let _printed = eprintln!(self.rt; "save: {name}");
-        self.tell(Saved::Failed);
     }
 
     /// Puts a snapshot that is written whole in the place of the last one, for good.
@@ -142,17 +117,16 @@ impl<R: Files + Eprint> Shelf for FileShelf<'_, R> {
             file.remove_beside();
             return;
         }
-        match self.keep(file, written.into_file()) {
-            Ok(()) => self.tell(Saved::Stands),
-            Err(error) => {
-                file.print_reason(&error);
-                file.remove_beside();
-                self.save_is_lost(SaveFault::WriteFailed);
-            }
+        if let Err(error) = self.keep(file, written.into_file()) {
+            file.print_reason(&error);
+            file.remove_beside();
+            self.save_failed(SaveFault::WriteFailed);
         }
     }
 
     fn save_failed(&mut self, fault: SaveFault) {
-        self.save_is_lost(fault);
+        let name = fault.name();
+        // If this can't be printed, there is no one to tell.
+        let _printed = eprintln!(self.rt; "save: {name}");
     }
 }

@@ -7,11 +7,7 @@ use rr_io::Counted;
 use rr_node::{NodeFault, Opening, Report, Shelf};
 use rr_snapshot::SaveFault;
 use std::rt::Files;
-use std::sync::Wait;
 use std::time::{Clock, Instant};
-
-/// How often cells are counted for what reads the counts of the node at any time, in seconds.
-const COUNT_EVERY: u64 = 10;
 
 /// A shelf that wants a snapshot at most once an interval, or when a flag was raised, and then
 /// hands it to another shelf. After each interval its log says what the rounds did. In each round
@@ -23,14 +19,12 @@ pub struct PacedShelf<'a, R, S> {
     rt: &'a R,
     shelf: S,
     pace: Pace,
-    /// When cells are counted for the counts of the node.
-    counting: Pace,
     save_requested: Flag,
     schema_differs: Flag,
     log: RoundLog<'a, R>,
 }
 
-impl<'a, R: Files + Eprint + Clock + Wait, S> PacedShelf<'a, R, S> {
+impl<'a, R: Files + Eprint + Clock, S> PacedShelf<'a, R, S> {
     /// Hands a snapshot to a shelf once an interval of `every` seconds, or in each round without
     /// one. `save_requested` asks for a snapshot before its time; `schema_differs` says that a peer
     /// of another schema pulled.
@@ -46,7 +40,6 @@ impl<'a, R: Files + Eprint + Clock + Wait, S> PacedShelf<'a, R, S> {
             rt,
             shelf,
             pace: Pace::new(every),
-            counting: Pace::new(Some(COUNT_EVERY)),
             save_requested,
             schema_differs,
             log,
@@ -65,18 +58,13 @@ impl<'a, R: Files + Eprint + Clock + Wait, S> PacedShelf<'a, R, S> {
         self.log.says() && (self.save_requested.is_raised() || self.pace.is_due(self.now()))
     }
 
-    /// Whether the counts of the node, if they are read, need a new number of cells.
-    fn is_count_old(&self) -> bool {
-        self.log.posts() && self.counting.is_due(self.now())
-    }
-
     /// What the clock that never goes back says, if it can be read.
     fn now(&self) -> Option<Instant> {
         Instant::now(self.rt).ok()
     }
 }
 
-impl<R: Files + Eprint + Clock + Wait, S: Shelf> Shelf for PacedShelf<'_, R, S> {
+impl<R: Files + Eprint + Clock, S: Shelf> Shelf for PacedShelf<'_, R, S> {
     ghost use Rattle.std.specs.Prelude.{[], ◌∷◌, None};
     ghost use Rattle.rr_host.specs.Calls.{Grows};
     ghost use Rattle.rr_host.specs.Streams.{output_of};
@@ -107,12 +95,7 @@ impl<R: Files + Eprint + Clock + Wait, S: Shelf> Shelf for PacedShelf<'_, R, S> 
         ensures { Grows None None (counts result ∷ []) }
     {
         let is_asked = self.shelf.counts_cells();
-        let counts = is_asked || self.is_interval_over() || self.is_count_old();
-        if counts {
-            let now = self.now();
-            self.counting.done(now);
-        }
-        counts
+        is_asked || self.is_interval_over()
     }
 
     fn pulls_ended(&mut self, cells: Option<usize>) {
@@ -127,7 +110,6 @@ impl<R: Files + Eprint + Clock + Wait, S: Shelf> Shelf for PacedShelf<'_, R, S> 
 
     fn open(&mut self) -> Opening<S::Output> {
         if !self.is_wanted() {
-            self.log.post();
             return Opening::Unwanted;
         }
         let now = self.now();

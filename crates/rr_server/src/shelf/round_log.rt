@@ -1,12 +1,10 @@
 //! What a node says of its rounds.
 
 use super::replaced::Replaced;
-use crate::signals::SharedText;
 use rr_node::{Report, Tally};
 use std::alloc::{AllocError, Global};
 use std::io::Write;
 use std::rt::Files;
-use std::sync::Wait;
 use std::time::{Clock, Duration, Instant};
 use std::{fmt, io};
 
@@ -22,15 +20,13 @@ impl fmt::Display for Seconds {
 }
 
 /// Says what rounds did: a line on standard error, if there is to be one, and a file of counts, if
-/// one is named, which is written as a snapshot is. After each round the same counts are the
-/// metrics of the node, if it shows any. Nothing is known of what it says.
+/// one is named, which is written as a snapshot is. Nothing is known of what it says.
 #[derive(Drop)]
 pub struct RoundLog<'a, R> {
     rt: &'a R,
     alloc: Global,
     prints: bool,
     file: Option<Replaced<'a, R>>,
-    metrics: Option<SharedText>,
     /// The connections since the last line, and all of them.
     since: Tally,
     all: Tally,
@@ -46,7 +42,7 @@ pub struct RoundLog<'a, R> {
     save: Duration,
 }
 
-impl<'a, R: Files + Eprint + Clock + Wait> RoundLog<'a, R> {
+impl<'a, R: Files + Eprint + Clock> RoundLog<'a, R> {
     /// Says what rounds do that begin now.
     pub fn new(
         rt: &'a R,
@@ -63,7 +59,6 @@ impl<'a, R: Files + Eprint + Clock + Wait> RoundLog<'a, R> {
             alloc,
             prints,
             file,
-            metrics: None,
             since: Tally::new(),
             all: Tally::new(),
             past_before: 0,
@@ -73,14 +68,6 @@ impl<'a, R: Files + Eprint + Clock + Wait> RoundLog<'a, R> {
             pulls: Duration::ZERO,
             save: Duration::ZERO,
         })
-    }
-
-    /// The same log, whose counts are the metrics too.
-    pub fn with_metrics(self, metrics: SharedText) -> RoundLog<'a, R> {
-        RoundLog {
-            metrics: Some(metrics),
-            ..self
-        }
     }
 
     /// The lines of a connection were taken, with this report if they were served to the end; the
@@ -118,11 +105,6 @@ impl<'a, R: Files + Eprint + Clock + Wait> RoundLog<'a, R> {
         self.prints || self.file.is_some()
     }
 
-    /// Whether its counts are metrics too.
-    pub(crate) fn posts(&self) -> bool {
-        self.metrics.is_some()
-    }
-
     /// How long it is since something began.
     fn elapsed(&self) -> Duration {
         match self.began {
@@ -131,19 +113,8 @@ impl<'a, R: Files + Eprint + Clock + Wait> RoundLog<'a, R> {
         }
     }
 
-    /// Puts the counts in the place of the last metrics.
-    pub(crate) fn post(&self) {
-        // If there is no memory for them, the last ones stay.
-        if let Some(metrics) = &self.metrics
-            && let Ok(text) = self.text()
-        {
-            metrics.put(self.rt, text.into_bytes());
-        }
-    }
-
     /// Says what the rounds did since the last time.
     pub(crate) fn say(&mut self) {
-        self.post();
         if self.prints {
             self.print();
         }

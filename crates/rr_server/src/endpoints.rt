@@ -1,9 +1,8 @@
-//! A node at work whose keeper takes lines where they come.
+//! Where a node's connections are served, and its work there.
 
 use crate::listeners::{Listeners, Signals};
 use crate::seats::TcpSeats;
 use crate::server::OUT_OF_MEMORY;
-use crate::signals::{Flag, HaltFlag};
 use crate::tcp::Listening;
 use crate::tools::Tools;
 use rr_config::Config;
@@ -18,14 +17,12 @@ use std::sync::Wait;
 use std::thread::Threads;
 use std::time::Clock;
 
-/// Where the connections of such a node are served.
+/// Where the connections of a node are served.
 #[derive(Drop)]
-pub(crate) struct Plain {
+pub(crate) struct Endpoints {
     pub(crate) lines: Listening,
     pub(crate) seats: TcpSeats,
-    pub(crate) halt: HaltFlag,
-    pub(crate) save_requested: Flag,
-    pub(crate) schema_differs: Flag,
+    pub(crate) signals: Signals,
 }
 
 /// A seat for each reader, with the connections of its address.
@@ -46,33 +43,24 @@ fn seats(
     Ok(seats)
 }
 
-impl Plain {
-    /// The listeners of such a node, with a reader for each address of fetches.
+impl Endpoints {
+    /// The listeners of a node, with a reader for each address of fetches.
     pub(crate) fn new(
         alloc: Global,
         readers: Vec<Reader<PackedArchive>>,
         listeners: Listeners,
-    ) -> Result<Plain, AllocError> {
-        let halt = listeners.signals.halt.share()?;
+    ) -> Result<Endpoints, AllocError> {
         let Listeners {
             lines,
             fetches,
             signals,
-            ..
         } = listeners;
+        let halt = signals.halt.share()?;
         let seats = seats(alloc, readers, fetches)?;
-        let Signals {
-            halt: own,
-            save_requested,
-            schema_differs,
-            ..
-        } = signals;
-        Ok(Plain {
+        Ok(Endpoints {
             lines,
             seats: TcpSeats { seats, halt },
-            halt: own,
-            save_requested,
-            schema_differs,
+            signals,
         })
     }
 }
