@@ -10,34 +10,25 @@ import sys
 
 from crates import TOP
 
-# What HTTP is served by until another server takes its place.
-WEB = (
-    "crates/rr_turns/",
-    "crates/rr_server/src/front",
-    "crates/rr_server/src/places.rt",
-    "crates/rr_server/src/web.rt",
-    "crates/rr_server/src/lib.rt",
-)
-
 # Each word that is given up, the words in its place, and where it stays.
 WORDS = {
     "alarm": ("schema_differs", ()),
-    "board": ("metrics", WEB),
-    "clerk": ("handler", WEB),
-    "door": ("acceptor", WEB),
-    "fittings": ("", WEB),
-    "front": ("prefix", WEB),
+    "board": ("metrics", ()),
+    "clerk": ("handler", ()),
+    "door": ("acceptor", ()),
+    "fittings": ("", ()),
+    "front": ("prefix", ()),
     "patience": ("timeout, waiting", ()),
-    "posts": ("queues", (*WEB, "crates/rr_server/src/shelf/")),
+    "posts": ("queues", ()),
     "reading": ("sample; in definitions, what a text is read as", ("specs/", "proofs/", "crates/rr_codec/src/laws.rt", "crates/rr_line/src/", "crates/rr_process/src/report.rt")),
     "said": ("parsed, reported", ()),
     "seat": (
         "handle of a reader; a seat has a reader, its visits and its gate",
         ("crates/rr_config/", "crates/rr_node/", "crates/rr_server/", "crates/rr_cases/", "crates/rr_tests/"),
     ),
-    "slip": ("ticket", WEB),
-    "turn": ("interval, sampling, step", (*WEB, "crates/rr_web/src/script.rt")),
-    "wish": ("save_requested", WEB),
+    "slip": ("ticket", ()),
+    "turn": ("interval, sampling, step", ("crates/rr_web/src/script.rt",)),
+    "wish": ("save_requested", ()),
 }
 
 # Names and clauses of the standard library that have such a word.

@@ -49,7 +49,6 @@ pub use pull::pull_peer;
 pub use reader::serve_reader;
 pub use report::{Report, push_report, push_report_line};
 pub use round::keep_round;
-pub use rounds::keep_or_halt;
 pub use rr_config::{Config, ConfigFault};
 pub use rr_host::{Clock, Dial, Halt, Visit, Visits};
 pub use seat::{Seat, serve_seat};
