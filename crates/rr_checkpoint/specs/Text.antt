@@ -18,7 +18,7 @@ pub record HaveCells (rs : List Raw) (cells : List NamedCell) : Type 0 where
   pub has : flat_map cells_of_record meanings ≡ cells
   pub fit : AllFit rs
 
--- the record at the end of a checkpoint of so many cells
+-- the record that ends a checkpoint with this number of cells
 abbrev pub end_text : ℕ → Raw
 end_text cells = raw_text (HasEnded cells)
 

@@ -56,8 +56,8 @@ pub record WritesWalk {W : Type 0} (contents : W → Option (List ℕ)) (old new
   pub walk : IsWalk first last reads
   pub written : WritesOn contents old new before progress (cells_read reads)
 
--- a checkpoint was written: the header of a file at a place, records of all cells that a reader gave, of which there
--- are so many, and the end
+-- a checkpoint was written: the header of a file at a place, records of all cells that a reader gave, and the end with
+-- their number
 pub record WritesCheckpoint {W : Type 0} (contents : W → Option (List ℕ)) (old new : Counted W) (begins : Cursor)
     (first last : ReaderState) (cells : ℕ) : Type 0 where
   pub reads : List Read

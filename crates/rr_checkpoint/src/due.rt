@@ -6,10 +6,10 @@ const FEW_BYTES: u64 = 67_108_864;
 
 const _: () = prove!(FEW_BYTES == 67_108_864);
 
-/// Whether a checkpoint is to be begun, where the journal since the last one has so many bytes, and
-/// that one has so many: the journal has more than the checkpoint, and more than 64 MiB. So a start
-/// reads about twice what a checkpoint has, or 64 MiB more, and the cost of checkpoints is in
-/// proportion to that of the journal.
+/// Whether to begin a checkpoint, by the bytes that the journal has had since the last one and the
+/// bytes of that one: the journal has to exceed both the checkpoint and 64 MiB. So a start reads at
+/// most about twice what the checkpoint has, or 64 MiB more, and the work for checkpoints stays in
+/// proportion to the journal.
 pub fn is_due(journal: u64, checkpoint: u64) -> bool
     ensures { IsTrue result ↔ ((checkpoint < journal) × (FEW_BYTES < journal)) }
 {

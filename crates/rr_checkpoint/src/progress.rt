@@ -83,7 +83,7 @@ fn out_of_memory(fault: JournalFault) -> AllocError
     AllocError
 }
 
-/// The record at the end of a checkpoint of so many cells.
+/// The record that ends a checkpoint with this number of cells.
 fn end_of(alloc: Global, cells: u64) -> Result<RawRecord, AllocError>
     ensures { IfOk result (IsEndOf cells) }
 {

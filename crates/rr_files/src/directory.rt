@@ -69,7 +69,7 @@ fn names_ending<R: Files>(
                     names.push(name)?;
                 }
             }
-            // A name that is no text is none of a node's.
+            // A name that isn't text isn't one of a node's files.
             Err(error) if error.kind() == ErrorKind::InvalidFilename => (),
             Err(error) => return Err(error),
         }

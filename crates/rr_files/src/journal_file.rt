@@ -40,7 +40,7 @@ pub struct JournalFile<F> {
 }
 
 impl<F: Write + Seek + OpenFile> JournalFile<F> {
-    /// A file of so many bytes, which are synced, and at whose end it stands.
+    /// A file with this many bytes, all of them synced, at whose end writing goes on.
     pub(crate) fn new(alloc: Global, file: F, len: u64) -> JournalFile<F> {
         JournalFile {
             file,
@@ -51,7 +51,7 @@ impl<F: Write + Seek + OpenFile> JournalFile<F> {
         }
     }
 
-    /// How many bytes of it are synced, its header among them: as many as a peer may be given.
+    /// How many of its bytes are synced, including the header: no more may be given to a peer.
     pub fn synced_len(&self) -> u64 {
         self.synced
     }

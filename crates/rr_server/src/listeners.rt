@@ -24,7 +24,7 @@ pub(crate) struct Signals {
 }
 
 impl Signals {
-    /// The signals of a node with so many threads. No flag is raised.
+    /// The signals of a node with this number of threads. No flag is raised.
     fn new(alloc: Global, threads: usize) -> Result<Signals, AllocError> {
         Ok(Signals {
             halt: HaltFlag::new(alloc)?,

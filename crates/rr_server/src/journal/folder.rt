@@ -62,7 +62,7 @@ impl<'a, R: Files + Eprint> Directory for Folder<'a, R> {
                         names.push(name)?;
                     }
                 }
-                // A name that is no text is none of a node's.
+                // A name that isn't text isn't one of a node's files.
                 Err(error) if error.kind() == ErrorKind::InvalidFilename => (),
                 Err(error) => return Err(self.fault(self.path, &error)),
             }

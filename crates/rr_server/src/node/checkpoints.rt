@@ -21,7 +21,7 @@ use std::time::{Clock, Duration};
 /// How many keys are looked at at a time.
 const KEYS: usize = 1_000;
 
-/// Series are counted once in so many seconds.
+/// Seconds between two counts of the series.
 const ROUNDS: u64 = 10;
 
 /// Writes checkpoints from a thread of its own. [`Files`] has types of its own, which can't be shown

@@ -17,7 +17,7 @@ enum Stage {
     Asked(Cursor),
     /// It is being written.
     Begun,
-    /// It has ended: with so many bytes, or it failed.
+    /// It has ended; this is its size in bytes, or nothing if it failed.
     Ended(Option<u64>),
 }
 
@@ -59,7 +59,7 @@ impl Desired {
         }
     }
 
-    /// Says how the one that was begun has ended: with so many bytes, or it failed.
+    /// Says how the one that was begun has ended: its size in bytes, or nothing if it failed.
     pub(crate) fn end<R: Wait>(&self, rt: &R, bytes: Option<u64>) {
         *self.stage.lock(rt) = Stage::Ended(bytes);
     }

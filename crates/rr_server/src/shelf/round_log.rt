@@ -85,7 +85,7 @@ impl<'a, R: Files + Eprint + Clock> RoundLog<'a, R> {
         self.past = samples;
     }
 
-    /// The pulls are over, with so many cells if they were counted; the save begins.
+    /// The pulls are over, and the save begins; the cells are given if they were counted.
     pub(crate) fn pulls_are_over(&mut self, cells: Option<usize>) {
         if let Some(cells) = cells {
             self.cells = cells;

@@ -14,7 +14,7 @@ const LOOK: i64 = 1_000_000;
 /// does the start of a thread.
 const LOOKS: u32 = 500;
 
-/// Sleeps for so many nanoseconds, fewer than a second's. A signal may end the sleep early.
+/// Sleeps for less than a second, in nanoseconds. A signal may end the sleep early.
 pub(crate) fn pause(nanoseconds: i64) {
     let asked = timespec {
         tv_sec: 0,
