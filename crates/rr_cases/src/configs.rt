@@ -50,8 +50,7 @@ fn push_config(output: &mut String, config: &Config) -> Result<(), AllocError> {
     push_setting(output, "rounds", config.rounds)?;
     push_setting(output, "visits", config.visits)?;
     push_times(output, config)?;
-    push_rounds(output, config)?;
-    push_http(output, config)
+    push_rounds(output, config)
 }
 
 /// Adds a setting, after its name.
@@ -85,18 +84,6 @@ pub(crate) fn push_given(
         output.push_str(word)
     } else {
         Ok(())
-    }
-}
-
-/// Adds what a configuration says of HTTP.
-fn push_http(output: &mut String, config: &Config) -> Result<(), AllocError> {
-    match &config.http {
-        Some(http) => {
-            push_setting(output, "http", http.address.as_str())?;
-            write!(output, " seats {}", http.seats)?;
-            push_given(output, " durable", http.durable)
-        }
-        None => Ok(()),
     }
 }
 

@@ -4,18 +4,16 @@ use Rattle.rr_document.specs.Document.{layout_in}
 use Rattle.rr_config.specs.Addresses.{addresses_in}
 use Rattle.rr_config.specs.Config.{config_in}
 use Rattle.rr_config.specs.Habits.{habits_in}
-use Rattle.rr_config.specs.Http.{http_in}
 use Rattle.rr_config.specs.Intake.{intake_in}
 use Rattle.rr_config.specs.Laws.{ConfigsAreOfTheirKeys, NodeConfigsAreOfTheirKeys}
 use Rattle.rr_config.specs.Node.{node_config_in}
 
 pub configs_are_of_their_keys : ConfigsAreOfTheirKeys
-unfolding config_in layout_in addresses_in intake_in habits_in http_in
+unfolding config_in layout_in addresses_in intake_in habits_in
 configs_are_of_their_keys t u schema =
     let addresses = schema.1.1 in
     let intake = addresses.1.1.1 in
     let habits = intake.1.1.1.1 in
-    let http = habits.1.1.1.1 in
     rw (
       schema.0,
       schema.1.0,
@@ -30,9 +28,6 @@ configs_are_of_their_keys t u schema =
       habits.1.0,
       habits.1.1.0,
       habits.1.1.1.0,
-      http.0,
-      http.1.0,
-      http.1.1.0,
     ) refl
 
 pub node_configs_are_of_their_keys : NodeConfigsAreOfTheirKeys

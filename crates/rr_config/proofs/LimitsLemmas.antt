@@ -1,23 +1,19 @@
 -- What holds of a configuration, read key by key.
-use Rattle.std.proofs.Common.{◌≡◌, [], Bool, true, false, not, ◌&&◌, ℕ, ◌+◌, ◌≤◌, List, length, Option, Some, None, Result, Ok, Err, refl, subst, arith}
-use Rattle.std.specs.Prelude.{IfSome, nat_le, ◌==◌, is_some, codes}
-use Rattle.std.specs.Option.{option_map}
+use Rattle.std.proofs.Common.{◌≡◌, [], Bool, true, false, not, ◌&&◌, ℕ, ◌≤◌, List, length, Option, Some, None, Result, Ok, Err, refl, subst}
+use Rattle.std.specs.Prelude.{IfSome, nat_le, codes}
 use Rattle.std.proofs.lemmas.Bool.{leb-true}
-use Rattle.std.proofs.lemmas.Bool.Decides.{nat_tests}
 use Rattle.toml.specs.Data.{Data, Members, get_member}
 use Rattle.rr_text.specs.Results.{◌>>=◌, unless}
 use Rattle.rr_text.specs.declared.limits.TheConstants.{MAX_IDLE, MAX_READERS}
 use Rattle.rr_document.specs.Document.{layout_in}
 use Rattle.rr_config.specs.declared.fault.ConfigFault.{ConfigFault}
 use Rattle.rr_config.specs.declared.fault.ConfigFault.TheVariants.{BadCount}
-use Rattle.rr_config.specs.declared.http.TheConstants.{HTTP_SEATS, MAX_HTTP_SEATS}
 use Rattle.rr_config.specs.Addresses.{AddressesView, addresses_in}
 use Rattle.rr_config.specs.Config.{ConfigView, config_in}
 use Rattle.rr_config.specs.Document.{of_schema}
 use Rattle.rr_config.specs.Habits.{HabitsView, habits_in}
-use Rattle.rr_config.specs.Http.{HttpView, address_in, durable_in, endless_address_of, http_in, seats_in, seats_of}
 use Rattle.rr_config.specs.Intake.{intake_in}
-use Rattle.rr_config.specs.Laws.{IsWait, IsWithinLimits, SuitsHttp}
+use Rattle.rr_config.specs.Laws.{IsWait, IsWithinLimits}
 use Rattle.rr_config.specs.Values.{count_of, flag_of, if_there, needed, readers_of, seconds_of, some_seconds_of, some_text_of, text_of, texts_of}
 
 -- P holds of the answer, unless it is a refusal
@@ -69,23 +65,6 @@ between least most n e = by (nat_le least n) (nat_le n most) refl refl e
     by true false low high e = absurd cc
     by false below low high e = absurd cc
 
-both_zero : (m n : ℕ) → not (m == 0 && n == 0) ≡ false → (m ≡ 0) × (n ≡ 0)
-both_zero m n e = by (m == 0) (n == 0) refl refl e
-  where
-    by : (a b : Bool) → (m == 0) ≡ a → (n == 0) ≡ b → not (a && b) ≡ false → (m ≡ 0) × (n ≡ 0)
-    by true true p q e = (grind (arith, p, nat_tests), grind (arith, q, nat_tests))
-    by true false p q e = absurd cc
-    by false b p q e = absurd cc
-
-not_above : (asked : Bool) (readers seats : ℕ) → (asked && not (nat_le (readers + seats) MAX_READERS)) ≡ false
-    → asked ≡ true → readers + seats ≤ MAX_READERS
-not_above asked readers seats e is = by (nat_le (readers + seats) MAX_READERS) refl (rw is at e)
-  where
-    by : (below : Bool) → nat_le (readers + seats) MAX_READERS ≡ below → not below ≡ false
-        → readers + seats ≤ MAX_READERS
-    by true b e = leb-true (readers + seats) MAX_READERS b
-    by false b e = absurd cc
-
 -- ---- key by key
 
 pub waits : (value : Data) → OfAnswer IsWait (seconds_of value)
@@ -131,60 +110,6 @@ addresses_hold table =
     then HasFetches (if_there [] texts_of (get_member (codes "peers") table)) _ (λ peers p.
     last HasFetches (record { lines = lines; fetch = texts; peers = peers }) (holds HasReaders _ texts fetch f))))
 
--- ---- HTTP
-
-abbrev Endless : ℕ → ℕ → Option (List ℕ) → Type 0
-Endless rounds visits address = IfSome address (λ _. (rounds ≡ 0) × (visits ≡ 0))
-
-address_holds : (table : Members) (rounds visits : ℕ) → OfAnswer (Endless rounds visits) (address_in table rounds visits)
-address_holds table rounds visits =
-    let P = Endless rounds visits in
-    of_missing P None (endless_address_of rounds visits) (get_member (codes "http") table) tt
-    (λ value. then P (text_of value) _ (λ address is. kept P BadCount _ (Ok (Some address))
-    (λ e. last P (Some address) (both_zero rounds visits e))))
-
-abbrev pub AreSeats : ℕ → Type 0
-AreSeats seats = (1 ≤ seats) × (seats ≤ MAX_HTTP_SEATS)
-
-pub default_seats : AreSeats HTTP_SEATS
-default_seats = (omega arith, omega arith)
-
-pub seats_of_hold : (value : Data) → OfAnswer AreSeats (seats_of value)
-seats_of_hold value = then AreSeats (count_of value) _ (λ n is. kept AreSeats BadCount _ (Ok n)
-    (λ e. last AreSeats n (between 1 MAX_HTTP_SEATS n e)))
-
-abbrev HasSeats : Bool → ℕ → ℕ → Type 0
-HasSeats asked readers seats = (1 ≤ seats) × (asked ≡ true → readers + seats ≤ MAX_READERS)
-
-seats_hold : (table : Members) (asked : Bool) (readers : ℕ) → OfAnswer (HasSeats asked readers) (seats_in table asked readers)
-seats_hold table asked readers =
-    let P = HasSeats asked readers in
-    let first = of_missing AreSeats HTTP_SEATS seats_of (get_member (codes "http_seats") table) default_seats
-    seats_of_hold in
-    then P (if_there HTTP_SEATS seats_of (get_member (codes "http_seats") table)) _ (λ seats s. kept P BadCount _ (Ok seats)
-    (λ e. last P seats ((holds AreSeats _ seats first s).0, not_above asked readers seats e)))
-
-abbrev SuitsHttpOf : ℕ → ℕ → ℕ → Option HttpView → Type 0
-SuitsHttpOf rounds visits readers http =
-    IfSome http (λ h. ((rounds ≡ 0) × (visits ≡ 0)) × ((1 ≤ h.seats) × (readers + h.seats ≤ MAX_READERS)))
-
-http_holds : (table : Members) (rounds visits readers : ℕ)
-    → OfAnswer (SuitsHttpOf rounds visits readers) (http_in table rounds visits readers)
-unfolding http_in
-http_holds table rounds visits readers =
-    let P = SuitsHttpOf rounds visits readers in
-    then P (address_in table rounds visits) _ (λ address a. then P (seats_in table (is_some address) readers) _ (λ seats s.
-    then P (durable_in table (is_some address)) _ (λ durable d. last P _ (by address seats durable
-    (holds (Endless rounds visits) _ address (address_holds table rounds visits) a)
-    (holds (HasSeats (is_some address) readers) _ seats (seats_hold table (is_some address) readers) s)))))
-  where
-    by : (address : Option (List ℕ)) (seats : ℕ) (durable : Bool) → Endless rounds visits address
-        → HasSeats (is_some address) readers seats
-        → SuitsHttpOf rounds visits readers
-        (option_map (λ (a : List ℕ). record { address = a; seats = seats; durable = durable }) address)
-    by None seats durable endless has = tt
-    by (Some address) seats durable endless has = (endless, (has.0, has.1 refl))
-
 -- ---- all keys
 
 limits_hold : (table : Members) → OfAnswer IsWithinLimits (config_in table)
@@ -193,24 +118,14 @@ limits_hold table =
     let P = IsWithinLimits in
     then P (of_schema (layout_in table)) _ (λ schema l. then P (addresses_in table) _ (λ addresses a.
     then P (intake_in table) _ (λ intake i. then P (habits_in table) _ (λ habits h.
-    then P (http_in table intake.rounds intake.visits (length addresses.fetch)) _ (λ http w.
     let fetch = holds HasFetches _ addresses (addresses_hold table) a in
     let habit = holds ByHabit _ habits (habits_hold table) h in
-    let suits = holds (SuitsHttpOf intake.rounds intake.visits (length addresses.fetch)) _ http
-    (http_holds table intake.rounds intake.visits (length addresses.fetch)) w in
     last P _ (record {
       some_fetch = fetch.0;
       few_fetch = fetch.1;
       idle = habit.0;
       every = habit.1;
-      http = suits_http _ http suits;
-    }))))))
-  where
-    suits_http : (c : ConfigView) (http : Option HttpView) → SuitsHttpOf c.rounds c.visits (length c.fetch) http
-        → IfSome http (SuitsHttp c)
-    suits_http c None suits = tt
-    suits_http c (Some h) suits =
-        record { rounds = suits.0.0; visits = suits.0.1; some_seat = suits.1.0; readers = suits.1.1 }
+    })))))
 
 pub configs_are_within_limits : (table : Members) (c : ConfigView) → config_in table ≡ Ok c → IsWithinLimits c
 configs_are_within_limits table c e = holds IsWithinLimits (config_in table) c (limits_hold table) e

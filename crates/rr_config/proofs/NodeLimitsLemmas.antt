@@ -8,15 +8,13 @@ use Rattle.rr_line.specs.declared.precision.Precision.TheVariants.{Ns}
 use Rattle.rr_schema.specs.Origin.{IsOrigin}
 use Rattle.rr_text.specs.declared.limits.TheConstants.{MAX_ORIGIN}
 use Rattle.rr_config.specs.declared.fault.ConfigFault.TheVariants.{BadCount, WrongKind}
-use Rattle.rr_config.specs.declared.http.TheConstants.{HTTP_SEATS}
-use Rattle.rr_config.specs.declared.node.TheConstants.{NODE_IDLE}
+use Rattle.rr_config.specs.declared.node.TheConstants.{DEFAULT_READERS, MAX_NODE_READERS, NODE_IDLE}
 use Rattle.rr_config.specs.Document.{of_schema}
-use Rattle.rr_config.specs.Http.{seats_of}
 use Rattle.rr_config.specs.Laws.{IsWait, IsWithinNodeLimits}
-use Rattle.rr_config.specs.Node.{NodeConfigView, node_config_in}
+use Rattle.rr_config.specs.Node.{NodeConfigView, node_config_in, reader_count_of}
 use Rattle.rr_config.specs.Origins.{RangeView}
 use Rattle.rr_config.specs.Values.{count_of, flag_of, if_there, needed, of_kind, origin_of, precision_of, range_in, range_of, seconds_of, some_count_of, some_text_of, text_of, texts_of}
-use Rattle.rr_config.proofs.LimitsLemmas.{AreSeats, OfAnswer, between, default_seats, holds, kept, last, of_missing, of_needed, seats_of_hold, then, waits}
+use Rattle.rr_config.proofs.LimitsLemmas.{OfAnswer, between, holds, kept, last, of_missing, of_needed, then, waits}
 
 -- ---- the origins
 
@@ -52,6 +50,15 @@ range_holds : (value : Data) → OfAnswer IsRange (range_of value)
 range_holds value = then IsRange (of_kind (as_array value)) _ (λ values v. kept IsRange WrongKind _ (range_in values)
     (λ e. range_in_holds values))
 
+-- ---- the readers
+
+abbrev IsReaderCount : ℕ → Type 0
+IsReaderCount readers = (1 ≤ readers) × (readers ≤ MAX_NODE_READERS)
+
+reader_count_holds : (value : Data) → OfAnswer IsReaderCount (reader_count_of value)
+reader_count_holds value = then IsReaderCount (count_of value) _ (λ n is. kept IsReaderCount BadCount _ (Ok n)
+    (λ e. last IsReaderCount n (between 1 MAX_NODE_READERS n e)))
+
 -- ---- all keys
 
 node_limits_hold : (table : Members) → OfAnswer IsWithinNodeLimits (node_config_in table)
@@ -61,8 +68,9 @@ node_limits_hold table =
     let origins_hold = of_needed IsRange range_of (get_member (codes "origins") table) range_holds in
     let a_minute : IsWait NODE_IDLE = (omega arith, omega arith) in
     let idle_holds = of_missing IsWait NODE_IDLE seconds_of (get_member (codes "idle") table) a_minute waits in
-    let readers_hold = of_missing AreSeats HTTP_SEATS seats_of (get_member (codes "readers") table) default_seats
-    seats_of_hold in
+    let four : IsReaderCount DEFAULT_READERS = (omega arith, omega arith) in
+    let readers_hold = of_missing IsReaderCount DEFAULT_READERS reader_count_of (get_member (codes "readers") table) four
+    reader_count_holds in
     then P (of_schema (layout_in table)) _ (λ schema s.
     then P (needed text_of (get_member (codes "http") table)) _ (λ http h.
     then P (if_there None some_text_of (get_member (codes "lines") table)) _ (λ lines l.
@@ -71,17 +79,17 @@ node_limits_hold table =
     then P (if_there None some_count_of (get_member (codes "lead") table)) _ (λ lead d.
     then P (if_there Ns precision_of (get_member (codes "precision") table)) _ (λ precision u.
     then P (if_there NODE_IDLE seconds_of (get_member (codes "idle") table)) _ (λ idle i.
-    then P (if_there HTTP_SEATS seats_of (get_member (codes "readers") table)) _ (λ readers r.
+    then P (if_there DEFAULT_READERS reader_count_of (get_member (codes "readers") table)) _ (λ readers r.
     then P (if_there false flag_of (get_member (codes "quiet") table)) _ (λ quiet q.
     let range = holds IsRange _ origins origins_hold o in
-    let seats = holds AreSeats _ readers readers_hold r in
+    let count = holds IsReaderCount _ readers readers_hold r in
     last P _ (record {
       first = range.first;
       last = range.last;
       ordered = range.ordered;
       idle = holds IsWait _ idle idle_holds i;
-      some_reader = seats.0;
-      few_readers = seats.1;
+      some_reader = count.0;
+      few_readers = count.1;
     })))))))))))
 
 pub node_configs_are_within_limits : (table : Members) (c : NodeConfigView) → node_config_in table ≡ Ok c

@@ -1,5 +1,5 @@
 -- What the TOML text of a configuration says: the configuration, or the first fault, key by key.
-use Rattle.std.specs.Prelude.{ℕ, Bool, List, length, map, Option, option_map, Result, Ok}
+use Rattle.std.specs.Prelude.{ℕ, Bool, List, map, Option, option_map, Result, Ok}
 use Rattle.std.specs.String.{string_bytes}
 use Rattle.toml.specs.Data.{Members}
 use Rattle.rr_document.specs.Document.{layout_in}
@@ -11,7 +11,6 @@ use Rattle.rr_config.specs.declared.fault.ConfigFault.{ConfigFault}
 use Rattle.rr_config.specs.Addresses.{addresses_in}
 use Rattle.rr_config.specs.Document.{members_of, of_schema}
 use Rattle.rr_config.specs.Habits.{habits_in}
-use Rattle.rr_config.specs.Http.{HttpView, http_in, http_view}
 use Rattle.rr_config.specs.Intake.{intake_in}
 
 -- a configuration, with its texts by their bytes
@@ -28,7 +27,6 @@ pub record ConfigView : Type 0 where
   pub every : Option ℕ
   pub quiet : Bool
   pub status : Option (List ℕ)
-  pub http : Option HttpView
 
 abbrev pub config_view : Config → ConfigView
 config_view c = record {
@@ -44,7 +42,6 @@ config_view c = record {
   every = c.every;
   quiet = c.quiet;
   status = option_map string_bytes c.status;
-  http = option_map http_view c.http;
 }
 
 -- the configuration of a table: the schema, and then the other keys, each through its faults; other keys are ignored
@@ -54,7 +51,6 @@ config_in table = do
   addresses ← addresses_in table
   intake ← intake_in table
   habits ← habits_in table
-  http ← http_in table intake.rounds intake.visits (length addresses.fetch)
   Ok (record {
     schema = schema;
     lines = addresses.lines;
@@ -68,7 +64,6 @@ config_in table = do
     every = habits.every;
     quiet = habits.quiet;
     status = habits.status;
-    http = http;
   })
 
 -- the configuration of a text

@@ -5,7 +5,6 @@ pub mod Values
 pub mod Addresses
 pub mod Intake
 pub mod Habits
-pub mod Http
 pub mod Config
 pub mod Node
 pub mod Laws

@@ -9,11 +9,14 @@ use toml::Table;
 /// What is said of a key that no command has.
 pub(crate) const UNKNOWN: &str = "this key is unknown, and ignored";
 
-/// What is said of a key of `rr serve` in a configuration of `rr node`.
+/// What is said of a key that only `rr serve` has in a configuration of `rr node`.
 const OF_SERVE: &str = "this key is of rr serve, and ignored";
 
+/// What is said of a key that only `rr node` has in a configuration of `rr serve`.
+const OF_NODE: &str = "this key is of rr node, and ignored";
+
 /// The keys of `rr serve`.
-const SERVE_KEYS: [&str; 16] = [
+const SERVE_KEYS: [&str; 13] = [
     "step",
     "archive",
     "lines",
@@ -27,9 +30,6 @@ const SERVE_KEYS: [&str; 16] = [
     "every",
     "quiet",
     "status",
-    "http",
-    "http_seats",
-    "durable",
 ];
 
 /// The keys of `rr node`.
@@ -70,6 +70,7 @@ impl Command {
         match self {
             Command::Serve if SERVE_KEYS.contains(&key) => None,
             Command::Node if NODE_KEYS.contains(&key) => None,
+            Command::Serve if NODE_KEYS.contains(&key) => Some(OF_NODE),
             Command::Node if SERVE_KEYS.contains(&key) => Some(OF_SERVE),
             _ => Some(UNKNOWN),
         }

@@ -11,7 +11,6 @@ use crate::addresses::addresses_in;
 use crate::document::table_of;
 use crate::fault::ConfigFault;
 use crate::habits::habits_in;
-use crate::http::{Http, http_in};
 use crate::intake::intake_in;
 use rr_document::FromToml;
 use rr_line::Precision;
@@ -49,8 +48,6 @@ pub struct Config {
     pub quiet: bool,
     /// The file that counts of what the node did are written to, if any.
     pub status: Option<String>,
-    /// How the node is asked over HTTP, if it is.
-    pub http: Option<Http>,
 }
 
 impl Config {
@@ -64,8 +61,6 @@ impl Config {
         let addresses = addresses_in(alloc, table)?;
         let intake = intake_in(table)?;
         let habits = habits_in(alloc, table)?;
-        let readers = addresses.fetch.len();
-        let http = http_in(alloc, table, intake.rounds, intake.visits, readers)?;
         Ok(Config {
             schema,
             lines: addresses.lines,
@@ -79,7 +74,6 @@ impl Config {
             every: habits.every,
             quiet: habits.quiet,
             status: habits.status,
-            http,
         })
     }
 
@@ -92,10 +86,8 @@ impl Config {
     /// text. All but `lines` and `fetch` may be missing. Other keys are ignored.
     ///
     /// Refusals, in this order: those of the schema; then key by key, in the order above,
-    /// `MissingField`, `WrongKind`, and `BadCount` or `BadPrecision`. `http` is refused as
-    /// `BadCount` beside `rounds` or `visits`, and `http_seats` if the readers are then more than
-    /// 16; `durable` is `MissingField` without `http`. `Memory` is answered where memory runs out.
-    /// The cost is that of reading the text once.
+    /// `MissingField`, `WrongKind`, and `BadCount` or `BadPrecision`. `Memory` is answered where
+    /// memory runs out. The cost is that of reading the text once.
     pub fn from_toml(alloc: Global, text: &[u8]) -> Result<Config, ConfigFault>
         ensures read { GivesUnless ConfigFault.Memory config_view result (config_of text.now) }
         ensures foreign { is_utf8 text.now ≡ false → result ≡ Err (ConfigFault.Schema BadToml) }

@@ -52,7 +52,7 @@ impl fmt::Display for ConfigFault {
                 f.write_str("a value of the configuration is of the wrong kind")
             }
             ConfigFault::BadCount => f.write_str(
-                "fetch takes 1 to 16 addresses, idle and every 1 to 86,400 seconds, http_seats 1 to 14 and with fetch at most 16, http neither rounds nor visits, and no number may be negative",
+                "fetch takes 1 to 16 addresses, idle and every 1 to 86,400 seconds, and no number may be negative",
             ),
             ConfigFault::BadPrecision => f.write_str("the precision must be ns, us, ms or s"),
             ConfigFault::Memory => f.write_str("out of memory"),

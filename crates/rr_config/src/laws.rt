@@ -1,9 +1,8 @@
 //! The laws of configurations, with no work to do: the functions have empty bodies.
 ghost use Rattle.rr_config.specs.Laws.{ConfigsAreOfTheirKeys, ConfigsAreWithinLimits, NodeConfigsAreOfTheirKeys, NodeConfigsAreWithinLimits};
 
-/// Whatever a text says, a configuration that isn't refused has 1 to 16 addresses for fetches, waits
-/// from a second to a day, and with HTTP rounds and visits without end, a seat at least, and no
-/// more than 16 readers in all.
+/// Whatever a text says, a configuration that isn't refused has 1 to 16 addresses for fetches, and
+/// waits from a second to a day.
 pub fn configs_are_within_limits()
     ensures { ConfigsAreWithinLimits }
 {}

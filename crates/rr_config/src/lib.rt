@@ -1,10 +1,10 @@
 //! The configuration of a node: what an operator writes in TOML.
 //!
 //! A [`Config`] is that of `rr serve`: it has the schema of the store, the addresses that the node
-//! listens on, its peers, how long it serves, how the times of lines are taken, and how it is asked
-//! over HTTP. A [`NodeConfig`] is that of `rr node`, whose [`OriginRange`] gives each start an
-//! origin of its own. Each is read by its `from_toml`; [`remarks`] and [`node_remarks`] tell an
-//! operator where a text is refused, and which of its keys are ignored.
+//! listens on, its peers, how long it serves, and how the times of lines are taken. A
+//! [`NodeConfig`] is that of `rr node`, which is asked over HTTP; its [`OriginRange`] gives each
+//! start an origin of its own. Each is read by its `from_toml`; [`remarks`] and [`node_remarks`]
+//! tell an operator where a text is refused, and which of its keys are ignored.
 //!
 //! ```text
 //! TOML text ── document ──> a table ── value, key by key ──> Config, NodeConfig
@@ -22,7 +22,6 @@ mod config;
 mod document;
 mod fault;
 mod habits;
-mod http;
 mod intake;
 pub mod laws;
 mod named_key;
@@ -33,7 +32,6 @@ mod value;
 
 pub use config::Config;
 pub use fault::ConfigFault;
-pub use http::Http;
 pub use node::NodeConfig;
 pub use origins::OriginRange;
 pub use remark::{node_remarks, remarks};

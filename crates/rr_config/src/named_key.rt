@@ -4,7 +4,6 @@ use crate::addresses::{address_at, fetch_in, peers_in};
 use crate::command::Command;
 use crate::fault::ConfigFault;
 use crate::habits::{quiet_in, seconds_in, some_text_in};
-use crate::http::{address_in, durable_in, seats_in};
 use crate::intake::{count_in, lead_in, precision_in};
 use crate::node::{idle_in, origins_in, readers_in};
 use crate::value::find;
@@ -96,33 +95,7 @@ fn refused_serve_key(alloc: Global, table: &Table) -> Option<&'static str> {
         ("every", seconds_in(table, "every").is_err()),
         ("quiet", quiet_in(table).is_err()),
         ("status", some_text_in(alloc, table, "status").is_err()),
-        ("http", is_no_http(alloc, table)),
-        ("http_seats", are_no_seats(alloc, table)),
-        ("durable", is_not_durable(table)),
     ])
-}
-
-/// Whether the address of HTTP is refused.
-fn is_no_http(alloc: Global, table: &Table) -> bool {
-    let (Ok(rounds), Ok(visits)) = (count_in(table, "rounds"), count_in(table, "visits")) else {
-        return false;
-    };
-    address_in(alloc, table, rounds, visits).is_err()
-}
-
-/// Whether the number of seats for HTTP is refused.
-fn are_no_seats(alloc: Global, table: &Table) -> bool {
-    let is_asked = find(table, "http").is_some();
-    let readers = match fetch_in(alloc, table) {
-        Ok(readers) => readers.len(),
-        Err(_) => 0,
-    };
-    seats_in(table, is_asked, readers).is_err()
-}
-
-/// Whether it is refused that writes wait for a snapshot.
-fn is_not_durable(table: &Table) -> bool {
-    durable_in(table, find(table, "http").is_some()).is_err()
 }
 
 /// The key at which the schema of a table is refused.

@@ -3,11 +3,10 @@
 ghost use Rattle.std.specs.Prelude.{◌≡◌, Err, codes, false};
 ghost use Rattle.std.specs.Str.{is_utf8};
 ghost use Rattle.toml.specs.Data.{get_member};
-ghost use Rattle.toml.specs.View.{table_view};
+ghost use Rattle.toml.specs.View.{table_view, view};
 ghost use Rattle.rr_text.specs.Results.{Gives, GivesUnless};
 ghost use Rattle.rr_schema.specs.declared.fault.SchemaFault.TheVariants.{BadToml};
-ghost use Rattle.rr_config.specs.Http.{seats_of};
-ghost use Rattle.rr_config.specs.Node.{node_config_in, node_config_of, node_config_view};
+ghost use Rattle.rr_config.specs.Node.{node_config_in, node_config_of, node_config_view, reader_count_of};
 ghost use Rattle.rr_config.specs.Origins.{range_view};
 ghost use Rattle.rr_config.specs.Values.{if_there, needed, range_of, seconds_of};
 
@@ -15,20 +14,34 @@ use crate::addresses::{address_at, peers_in};
 use crate::document::table_of;
 use crate::fault::ConfigFault;
 use crate::habits::{quiet_in, some_text_in};
-use crate::http::{HTTP_SEATS, seats_of};
 use crate::intake::{lead_in, precision_in};
 use crate::origins::OriginRange;
-use crate::value::{find, range_of, seconds_of};
+use crate::value::{count_of, find, range_of, seconds_of};
 use rr_document::FromToml;
 use rr_line::Precision;
 use rr_schema::Schema;
+use rr_text::limits::MAX_READERS;
 use std::alloc::Global;
-use toml::Table;
+use toml::{Table, Value};
 
 /// For how many seconds a connection may be silent, if the configuration doesn't say.
 pub(crate) const NODE_IDLE: u64 = 60;
 
 const _: () = prove!(NODE_IDLE == 60);
+
+/// How many threads answer fetches, if the configuration doesn't say.
+pub(crate) const DEFAULT_READERS: u64 = 4;
+
+/// The most threads that answer fetches. Each takes one of the store's 16 readers, checkpoints take
+/// another, and one stays free.
+pub(crate) const MAX_NODE_READERS: u64 = 14;
+
+const _: () = prove!(DEFAULT_READERS == 4);
+
+const _: () = prove!(MAX_NODE_READERS == 14);
+
+// Checkpoints have a reader too.
+const _: () = prove!(MAX_NODE_READERS < MAX_READERS as u64);
 
 /// What an operator configures of a node that keeps a journal.
 #[derive(Debug, Drop)]
@@ -78,14 +91,25 @@ pub(crate) fn idle_in(table: &Table) -> Result<u64, ConfigFault>
     }
 }
 
+/// A number of threads that answer fetches.
+fn reader_count_of(value: &Value) -> Result<u64, ConfigFault>
+    ensures { result ≡ reader_count_of (view value.now) }
+{
+    let readers = count_of(value)?;
+    if readers == 0 || readers > MAX_NODE_READERS {
+        return Err(ConfigFault::BadCount);
+    }
+    Ok(readers)
+}
+
 /// How many threads answer fetches, 4 where the key is missing.
 pub(crate) fn readers_in(table: &Table) -> Result<u64, ConfigFault>
-    ensures { result ≡ if_there HTTP_SEATS seats_of
+    ensures { result ≡ if_there DEFAULT_READERS reader_count_of
         (get_member (codes "readers") (table_view table.now)) }
 {
     match find(table, "readers") {
-        Some(value) => seats_of(value),
-        None => Ok(HTTP_SEATS),
+        Some(value) => reader_count_of(value),
+        None => Ok(DEFAULT_READERS),
     }
 }
 

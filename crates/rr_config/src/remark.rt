@@ -13,7 +13,8 @@ use toml::de::Error;
 /// each.
 ///
 /// Of a text that is refused that is the key and the reason. Of any other it is each key that is
-/// ignored, and that there is no `lead`. The cost is that of reading the text twice.
+/// ignored, and that there is no `lead`. Of a key that only `rr node` has it says so. The cost is
+/// that of reading the text twice.
 pub fn remarks(alloc: Global, text: &[u8]) -> Result<Vec<String>, AllocError> {
     remarks_for(alloc, Command::Serve, text)
 }

@@ -25,7 +25,7 @@ pub(crate) fn find<'a>(table: &'a Table, key: &str) -> Option<&'a Value>
 }
 
 /// A text.
-pub(crate) fn text_of(value: &Value) -> Result<&str, ConfigFault>
+fn text_of(value: &Value) -> Result<&str, ConfigFault>
     ensures { Gives (λ text. text.now) result (text_of (view value.now)) }
 {
     value.as_str().ok_or(ConfigFault::WrongKind)
