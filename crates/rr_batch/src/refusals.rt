@@ -51,7 +51,7 @@ impl RefusalCounts {
     ghost use Rattle.rr_batch.specs.Refusals.{Counts, CountsRefused, HasRoom, all_lines, counts_of, lines_named};
     ghost use Rattle.rr_batch.specs.Refusals.{one_if, whole_lines};
 
-    /// No line was refused. It takes no memory yet.
+    /// Counts of no lines, which take no memory yet.
     pub fn new(alloc: Global) -> RefusalCounts
         ensures nothing { all_lines result ≡ 0 }
         ensures room { HasRoom result }
@@ -123,12 +123,12 @@ impl RefusalCounts {
         Ok(lines)
     }
 
-    /// Counts so many refused lines. Of some of them the text has a line `line N: NAME` that a line
-    /// feed ends: these are counted under their names, and the others as `other`. So the counts come
-    /// to all refused lines, as long as the text has no more.
+    /// Counts so many refused lines, of which the text tells some: each line `line N: NAME` of it that
+    /// ends in a line feed counts under its name, and the refused lines that are left as `other`. A
+    /// text with more lines than were refused counts with all its lines.
     ///
-    /// Where memory runs out, some of the lines are counted. The cost is linear in the text, and for
-    /// each of its lines that of finding a name among at most [`MAX_NAMES`].
+    /// If memory runs out, some of the lines are counted. The cost is linear in the text; finding the
+    /// count of a name is logarithmic in the names, of which there are at most [`MAX_NAMES`].
     pub fn add(&mut self, text: &[u8], refused: u64) -> Result<(), AllocError>
         ensures { OnOk result (CountsRefused self.old self.new text.now refused) }
     {

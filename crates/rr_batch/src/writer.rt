@@ -82,16 +82,17 @@ impl Writer {
         self.tally
     }
 
-    /// The lines of all items that were refused since the start, by the names of their faults. Those
-    /// of a body whose refusals are not among the first [`MAX_REFUSALS`] bytes are counted as `other`.
+    /// The lines of all items that were refused since the start, by the names of their faults. Of a
+    /// body only the first [`MAX_REFUSALS`] bytes of refusals are kept: its other refused lines count
+    /// as `other`.
     pub fn refused(&self) -> &RefusalCounts
         ensures { result.now ≡ self.now.refused }
     {
         &self.refused
     }
 
-    /// Counts lines: what became of all up to these was `before` and is `after`, and these are the
-    /// refusals of some of them.
+    /// Counts lines that changed a report from `before` to `after`, and of which these refusals are
+    /// kept.
     fn count(&mut self, before: Report, after: Report, refusals: &[u8]) -> Result<(), AllocError>
         ensures { OnOk result (CountsRefused self.old.refused self.new.refused refusals.now
             (after.refused - before.refused)) }
