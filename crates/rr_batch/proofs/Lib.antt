@@ -1,1 +1,3 @@
 pub mod OriginLemmas
+pub mod RefusalLemmas
+pub mod RefusalTextLemmas

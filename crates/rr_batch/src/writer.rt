@@ -1,11 +1,12 @@
 //! Who takes the writes of a node's connections.
 
-ghost use Rattle.std.specs.Prelude.{◌≡◌, IfOk};
+ghost use Rattle.std.specs.Prelude.{◌≡◌, ◌-◌, IfOk, OnOk};
 ghost use Rattle.rr_connection.specs.Requests.{request_view};
 ghost use Rattle.rr_batch.specs.Answers.{pending_view};
 
 use crate::fault::BatchFault;
 use crate::pending::{Pending, Waiting};
+use crate::refusals::RefusalCounts;
 use rr_archive::Cells;
 use rr_connection::{Piece, Request};
 use rr_desk::Keeper;
@@ -14,7 +15,7 @@ use rr_line::Precision;
 use rr_node::{LineStream, NodeFault, Report, take_text};
 use rr_reactor::{Item, Work};
 use rr_web::refused_write;
-use std::alloc::Global;
+use std::alloc::{AllocError, Global};
 use std::collections::BTreeMap;
 use std::sync::Wait;
 
@@ -34,6 +35,8 @@ pub struct Writer {
     streams: BTreeMap<usize, LineStream>,
     /// What became of the lines of all items.
     tally: Report,
+    /// The refused ones among them, by their names.
+    refused: RefusalCounts,
 }
 
 /// What became of lines, and of others that came to more than these.
@@ -58,7 +61,8 @@ const NONE: Report = Report {
 };
 
 impl Writer {
-    ghost use Rattle.rr_batch.specs.Taking.{OfRequest, TakesRequest, rules_in};
+    ghost use Rattle.rr_batch.specs.Refusals.{CountsRefused};
+    ghost use Rattle.rr_batch.specs.Taking.{CountsPending, OfRequest, TakesRequest, rules_in};
 
     /// A writer to which no item came. The times of lines have this precision, and may be ahead of
     /// the clock by `lead` nanoseconds, or by any where that is missing.
@@ -69,12 +73,33 @@ impl Writer {
             lead,
             streams: BTreeMap::new(alloc),
             tally: NONE,
+            refused: RefusalCounts::new(alloc),
         }
     }
 
     /// What became of the lines of all items since the start.
     pub fn tally(&self) -> Report {
         self.tally
+    }
+
+    /// The lines of all items that were refused since the start, by the names of their faults. Of a
+    /// body only the first [`MAX_REFUSALS`] bytes of refusals are kept: its other refused lines count
+    /// as `other`.
+    pub fn refused(&self) -> &RefusalCounts
+        ensures { result.now ≡ self.now.refused }
+    {
+        &self.refused
+    }
+
+    /// Counts lines that changed a report from `before` to `after`, and of which these refusals are
+    /// kept.
+    fn count(&mut self, before: Report, after: Report, refusals: &[u8]) -> Result<(), AllocError>
+        ensures { OnOk result (CountsRefused self.old.refused self.new.refused refusals.now
+            (after.refused - before.refused)) }
+    {
+        self.tally = sum(self.tally, before, after);
+        let refused = after.refused.saturating_sub(before.refused);
+        self.refused.add(refusals, refused)
     }
 
     /// Takes the lines of a request's body, unless the request is refused.
@@ -85,13 +110,15 @@ impl Writer {
         clock: &mut C,
         rt: &T,
     ) -> Result<Pending, BatchFault>
-        ensures { IfOk result (λ p. TakesRequest self.old.precision (rules_in self.old)
+        ensures taken { IfOk result (λ p. TakesRequest self.old.precision (rules_in self.old)
             (request_view request.now) (record {
               before = keeper.old;
               now = keeper.new;
               given = C.given clock.old;
               since = C.given clock.new;
             }) (pending_view p)) }
+        ensures counted { IfOk result (λ p.
+            CountsPending self.old.refused self.new.refused (pending_view p)) }
     {
         if let Some(reply) = refused_write(self.alloc, request, self.precision)? {
             return Ok(Pending::Decided(reply));
@@ -107,7 +134,7 @@ impl Writer {
             rt,
         ) {
             Ok(taken) => {
-                self.tally = sum(self.tally, NONE, taken.report);
+                self.count(NONE, taken.report, &taken.refusals)?;
                 Ok(Pending::Body(taken))
             }
             Err(_) => Err(BatchFault::Memory),
@@ -115,7 +142,9 @@ impl Writer {
     }
 
     /// The lines of a connection, up to its next piece.
-    fn stream(&mut self, key: usize, is_first: bool) -> LineStream {
+    fn stream(&mut self, key: usize, is_first: bool) -> LineStream
+        ensures { self.new.refused ≡ self.old.refused }
+    {
         match self.streams.remove(&key) {
             Some(stream) if !is_first => stream,
             _ => LineStream::new(self.alloc, self.precision, self.lead),
@@ -130,7 +159,10 @@ impl Writer {
         keeper: &mut Keeper<A>,
         clock: &mut C,
         rt: &T,
-    ) -> Result<Pending, BatchFault> {
+    ) -> Result<Pending, BatchFault>
+        ensures { IfOk result (λ p.
+            CountsPending self.old.refused self.new.refused (pending_view p)) }
+    {
         let mut stream = self.stream(key, piece.is_first);
         let before = stream.report();
         let mut refusals = Vec::new(self.alloc);
@@ -140,7 +172,7 @@ impl Writer {
             Err(_) => return Err(BatchFault::Memory),
         }
         if !piece.is_last {
-            self.tally = sum(self.tally, before, stream.report());
+            self.count(before, stream.report(), &refusals)?;
             self.streams.insert(key, stream)?;
             return Ok(Pending::Lines {
                 refusals,
@@ -149,7 +181,7 @@ impl Writer {
         }
         match stream.end(usize::MAX, &mut refusals, keeper, clock, rt) {
             Ok(report) => {
-                self.tally = sum(self.tally, before, report);
+                self.count(before, report, &refusals)?;
                 Ok(Pending::Lines {
                     refusals,
                     report: Some(report),
@@ -177,6 +209,8 @@ impl Writer {
               given = C.given clock.old;
               since = C.given clock.new;
             }) (pending_view w.pending))) }
+        ensures counted { IfOk result (λ w.
+            CountsPending self.old.refused self.new.refused (pending_view w.pending)) }
     {
         let key = item.key;
         let pending = match item.work {
