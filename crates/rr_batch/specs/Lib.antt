@@ -2,3 +2,4 @@ pub mod Answers
 pub mod Batches
 pub mod Refusals
 pub mod Taking
+pub mod Pieces

@@ -1,6 +1,6 @@
 //! Who takes the writes of a node's connections.
 
-ghost use Rattle.std.specs.Prelude.{◌≡◌, ◌-◌, IfOk, OnOk};
+ghost use Rattle.std.specs.Prelude.{◌≡◌, ◌-◌, IfOk, None, OnOk, Some};
 ghost use Rattle.rr_connection.specs.Requests.{request_view};
 ghost use Rattle.rr_batch.specs.Answers.{pending_view};
 
@@ -61,6 +61,7 @@ const NONE: Report = Report {
 };
 
 impl Writer {
+    ghost use Rattle.rr_batch.specs.Pieces.{GoesOnWith, KeepsOthers, OfPiece, TookPiece, stream_of};
     ghost use Rattle.rr_batch.specs.Refusals.{CountsRefused};
     ghost use Rattle.rr_batch.specs.Taking.{CountsPending, OfRequest, TakesRequest, rules_in};
 
@@ -94,8 +95,9 @@ impl Writer {
     /// Counts lines that changed a report from `before` to `after`, and of which these refusals are
     /// kept.
     fn count(&mut self, before: Report, after: Report, refusals: &[u8]) -> Result<(), AllocError>
-        ensures { OnOk result (CountsRefused self.old.refused self.new.refused refusals.now
-            (after.refused - before.refused)) }
+        ensures refused { OnOk result (CountsRefused self.old.refused self.new.refused
+            refusals.now (after.refused - before.refused)) }
+        ensures streams { OnOk result (self.new.streams ≡ self.old.streams) }
     {
         self.tally = sum(self.tally, before, after);
         let refused = after.refused.saturating_sub(before.refused);
@@ -141,14 +143,28 @@ impl Writer {
         }
     }
 
-    /// The lines of a connection, up to its next piece.
+    /// The stream that a piece of a connection goes on with, which is handed over: that of the
+    /// connection, or a new one for its first piece.
     fn stream(&mut self, key: usize, is_first: bool) -> LineStream
-        ensures { self.new.refused ≡ self.old.refused }
+        ensures goes_on { GoesOnWith self.old key is_first result }
+        ensures gone { stream_of self.new key ≡ None }
+        ensures others { KeepsOthers self.old self.new key }
+        ensures refused { self.new.refused ≡ self.old.refused }
     {
         match self.streams.remove(&key) {
             Some(stream) if !is_first => stream,
             _ => LineStream::new(self.alloc, self.precision, self.lead),
         }
+    }
+
+    /// Keeps the stream of a connection up to its next piece.
+    fn keep(&mut self, key: usize, stream: LineStream) -> Result<(), AllocError>
+        ensures kept { OnOk result (stream_of self.new key ≡ Some stream) }
+        ensures others { OnOk result (KeepsOthers self.old self.new key) }
+        ensures refused { OnOk result (self.new.refused ≡ self.old.refused) }
+    {
+        self.streams.insert(key, stream)?;
+        Ok(())
     }
 
     /// Takes the lines of a piece of a connection.
@@ -160,7 +176,13 @@ impl Writer {
         clock: &mut C,
         rt: &T,
     ) -> Result<Pending, BatchFault>
-        ensures { IfOk result (λ p.
+        ensures taken { IfOk result (λ p. TookPiece self.old self.new key piece.now (record {
+          before = keeper.old;
+          now = keeper.new;
+          given = C.given clock.old;
+          since = C.given clock.new;
+        }) (pending_view p)) }
+        ensures counted { IfOk result (λ p.
             CountsPending self.old.refused self.new.refused (pending_view p)) }
     {
         let mut stream = self.stream(key, piece.is_first);
@@ -173,7 +195,7 @@ impl Writer {
         }
         if !piece.is_last {
             self.count(before, stream.report(), &refusals)?;
-            self.streams.insert(key, stream)?;
+            self.keep(key, stream)?;
             return Ok(Pending::Lines {
                 refusals,
                 report: None,
@@ -204,6 +226,13 @@ impl Writer {
         ensures key { IfOk result (λ w. w.key ≡ item.key) }
         ensures request { IfOk result (λ w. OfRequest item.work (λ r. TakesRequest
             self.old.precision (rules_in self.old) r (record {
+              before = keeper.old;
+              now = keeper.new;
+              given = C.given clock.old;
+              since = C.given clock.new;
+            }) (pending_view w.pending))) }
+        ensures piece { IfOk result (λ w. OfPiece item.work (λ p. TookPiece self.old self.new item.key
+            p (record {
               before = keeper.old;
               now = keeper.new;
               given = C.given clock.old;
