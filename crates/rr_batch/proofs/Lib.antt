@@ -1,1 +1,4 @@
 pub mod OriginLemmas
+pub mod RefusalLemmas
+pub mod RefusalTextLemmas
+pub mod PieceLemmas

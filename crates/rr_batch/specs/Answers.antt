@@ -1,5 +1,5 @@
 -- What the items of a batch are answered, by whether the batch is saved.
-use Rattle.std.specs.Prelude.{ℕ, Bool, true, false, not, List, [], ◌++◌, Option, Some, None, codes, decimal}
+use Rattle.std.specs.Prelude.{ℕ, Bool, true, false, not, List, ◌++◌, Option, Some, None}
 use Rattle.rr_connection.specs.Answer.{ReplyView as ResponseView, reply_view as response_view}
 use Rattle.rr_node.specs.declared.report.Report.{Report}
 use Rattle.rr_node.specs.Lines.{report_text, report_line}

@@ -1,5 +1,5 @@
 -- What a batch leaves, and the record of an origin.
-use Rattle.std.specs.Prelude.{◌≡◌, ℕ, Bool, List, [], ◌∷◌, Option, if◌then◌else◌}
+use Rattle.std.specs.Prelude.{ℕ, Bool, List, [], ◌∷◌, Option, if◌then◌else◌}
 use Rattle.rr_journal.specs.declared.cursor.Cursor.{Cursor}
 use Rattle.rr_journal.specs.Body.{HasOrigin, raw_text}
 use Rattle.rr_journal.specs.Keeping.{Committed}

@@ -1,3 +1,5 @@
 pub mod Answers
 pub mod Batches
+pub mod Refusals
 pub mod Taking
+pub mod Pieces

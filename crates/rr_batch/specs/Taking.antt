@@ -11,9 +11,11 @@ use Rattle.rr_node.specs.LineStream.{AreTaken}
 use Rattle.rr_reactor.specs.declared.item.Work.{Work}
 use Rattle.rr_reactor.specs.declared.item.Work.TheVariants as work
 use Rattle.rr_web.specs.Refusals.{refused_write}
+use Rattle.rr_batch.specs.declared.refusals.RefusalCounts.{RefusalCounts}
 use Rattle.rr_batch.specs.declared.writer.Writer.{Writer}
 use Rattle.rr_batch.specs.declared.writer.TheConstants.{MAX_REFUSALS}
 use Rattle.rr_batch.specs.Answers.{PendingView, decided, body, lines, closed}
+use Rattle.rr_batch.specs.Refusals.{CountsRefused}
 
 -- how a keeper and what a clock gave were before an item, and how they are after it
 pub record Change : Type 0 where
@@ -43,6 +45,13 @@ TakesRequest precision rules request change (body refusals report) =
     (refused_write precision request ≡ None) × TakesBody rules request.body change refusals report
 TakesRequest precision rules request change (lines refusals report) = ⊥
 TakesRequest precision rules request change closed = ⊥
+
+-- the refused lines of what an item came to are counted: of a body all, of a piece those that came with it
+abbrev pub CountsPending : RefusalCounts → RefusalCounts → PendingView → Type 0
+CountsPending old new (decided reply) = new ≡ old
+CountsPending old new (body refusals report) = CountsRefused old new refusals report.refused
+CountsPending old new (lines refusals report) = (refused : ℕ) × CountsRefused old new refusals refused
+CountsPending old new closed = new ≡ old
 
 -- this holds of the request of an item that has one
 abbrev pub OfRequest : Work → (RequestView → Type 0) → Type 0

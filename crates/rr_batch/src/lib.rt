@@ -10,17 +10,21 @@
 //! of connections. [`Writer`] takes their lines; what is to be answered waits as a [`Pending`], which
 //! [`commit_batch`] turns into an answer once it is known whether the batch is in the journal, and
 //! synced. So one sync serves all that waited, and nothing is acknowledged that a crash could lose.
+//! Lines that are refused are counted by the names of their faults: [`RefusalCounts`].
 #![tactic(auto)]
 
 mod answering;
 mod committing;
 mod fault;
+pub mod laws;
 mod origin;
 mod pending;
+mod refusals;
 mod writer;
 
 pub use committing::{Answers, commit_batch};
 pub use fault::BatchFault;
 pub use origin::commit_origin;
 pub use pending::{Pending, Waiting};
+pub use refusals::{MAX_NAMES, RefusalCounts};
 pub use writer::{MAX_REFUSALS, Writer};

@@ -1,11 +1,12 @@
 //! Who takes the writes of a node's connections.
 
-ghost use Rattle.std.specs.Prelude.{◌≡◌, IfOk};
+ghost use Rattle.std.specs.Prelude.{◌≡◌, ◌-◌, IfOk, None, OnOk, Some};
 ghost use Rattle.rr_connection.specs.Requests.{request_view};
 ghost use Rattle.rr_batch.specs.Answers.{pending_view};
 
 use crate::fault::BatchFault;
 use crate::pending::{Pending, Waiting};
+use crate::refusals::RefusalCounts;
 use rr_archive::Cells;
 use rr_connection::{Piece, Request};
 use rr_desk::Keeper;
@@ -14,7 +15,7 @@ use rr_line::Precision;
 use rr_node::{LineStream, NodeFault, Report, take_text};
 use rr_reactor::{Item, Work};
 use rr_web::refused_write;
-use std::alloc::Global;
+use std::alloc::{AllocError, Global};
 use std::collections::BTreeMap;
 use std::sync::Wait;
 
@@ -34,6 +35,8 @@ pub struct Writer {
     streams: BTreeMap<usize, LineStream>,
     /// What became of the lines of all items.
     tally: Report,
+    /// The refused ones among them, by their names.
+    refused: RefusalCounts,
 }
 
 /// What became of lines, and of others that came to more than these.
@@ -58,7 +61,9 @@ const NONE: Report = Report {
 };
 
 impl Writer {
-    ghost use Rattle.rr_batch.specs.Taking.{OfRequest, TakesRequest, rules_in};
+    ghost use Rattle.rr_batch.specs.Pieces.{GoesOnWith, KeepsOthers, OfPiece, TookPiece, stream_of};
+    ghost use Rattle.rr_batch.specs.Refusals.{CountsRefused};
+    ghost use Rattle.rr_batch.specs.Taking.{CountsPending, OfRequest, TakesRequest, rules_in};
 
     /// A writer to which no item came. The times of lines have this precision, and may be ahead of
     /// the clock by `lead` nanoseconds, or by any where that is missing.
@@ -69,12 +74,34 @@ impl Writer {
             lead,
             streams: BTreeMap::new(alloc),
             tally: NONE,
+            refused: RefusalCounts::new(alloc),
         }
     }
 
     /// What became of the lines of all items since the start.
     pub fn tally(&self) -> Report {
         self.tally
+    }
+
+    /// The lines of all items that were refused since the start, by the names of their faults. Of a
+    /// body only the first [`MAX_REFUSALS`] bytes of refusals are kept: its other refused lines count
+    /// as `other`.
+    pub fn refused(&self) -> &RefusalCounts
+        ensures { result.now ≡ self.now.refused }
+    {
+        &self.refused
+    }
+
+    /// Counts lines that changed a report from `before` to `after`, and of which these refusals are
+    /// kept.
+    fn count(&mut self, before: Report, after: Report, refusals: &[u8]) -> Result<(), AllocError>
+        ensures refused { OnOk result (CountsRefused self.old.refused self.new.refused
+            refusals.now (after.refused - before.refused)) }
+        ensures streams { OnOk result (self.new.streams ≡ self.old.streams) }
+    {
+        self.tally = sum(self.tally, before, after);
+        let refused = after.refused.saturating_sub(before.refused);
+        self.refused.add(refusals, refused)
     }
 
     /// Takes the lines of a request's body, unless the request is refused.
@@ -85,13 +112,15 @@ impl Writer {
         clock: &mut C,
         rt: &T,
     ) -> Result<Pending, BatchFault>
-        ensures { IfOk result (λ p. TakesRequest self.old.precision (rules_in self.old)
+        ensures taken { IfOk result (λ p. TakesRequest self.old.precision (rules_in self.old)
             (request_view request.now) (record {
               before = keeper.old;
               now = keeper.new;
               given = C.given clock.old;
               since = C.given clock.new;
             }) (pending_view p)) }
+        ensures counted { IfOk result (λ p.
+            CountsPending self.old.refused self.new.refused (pending_view p)) }
     {
         if let Some(reply) = refused_write(self.alloc, request, self.precision)? {
             return Ok(Pending::Decided(reply));
@@ -107,19 +136,35 @@ impl Writer {
             rt,
         ) {
             Ok(taken) => {
-                self.tally = sum(self.tally, NONE, taken.report);
+                self.count(NONE, taken.report, &taken.refusals)?;
                 Ok(Pending::Body(taken))
             }
             Err(_) => Err(BatchFault::Memory),
         }
     }
 
-    /// The lines of a connection, up to its next piece.
-    fn stream(&mut self, key: usize, is_first: bool) -> LineStream {
+    /// The stream that a piece of a connection goes on with, which is handed over: that of the
+    /// connection, or a new one for its first piece.
+    fn stream(&mut self, key: usize, is_first: bool) -> LineStream
+        ensures goes_on { GoesOnWith self.old key is_first result }
+        ensures gone { stream_of self.new key ≡ None }
+        ensures others { KeepsOthers self.old self.new key }
+        ensures refused { self.new.refused ≡ self.old.refused }
+    {
         match self.streams.remove(&key) {
             Some(stream) if !is_first => stream,
             _ => LineStream::new(self.alloc, self.precision, self.lead),
         }
+    }
+
+    /// Keeps the stream of a connection up to its next piece.
+    fn keep(&mut self, key: usize, stream: LineStream) -> Result<(), AllocError>
+        ensures kept { OnOk result (stream_of self.new key ≡ Some stream) }
+        ensures others { OnOk result (KeepsOthers self.old self.new key) }
+        ensures refused { OnOk result (self.new.refused ≡ self.old.refused) }
+    {
+        self.streams.insert(key, stream)?;
+        Ok(())
     }
 
     /// Takes the lines of a piece of a connection.
@@ -130,7 +175,16 @@ impl Writer {
         keeper: &mut Keeper<A>,
         clock: &mut C,
         rt: &T,
-    ) -> Result<Pending, BatchFault> {
+    ) -> Result<Pending, BatchFault>
+        ensures taken { IfOk result (λ p. TookPiece self.old self.new key piece.now (record {
+          before = keeper.old;
+          now = keeper.new;
+          given = C.given clock.old;
+          since = C.given clock.new;
+        }) (pending_view p)) }
+        ensures counted { IfOk result (λ p.
+            CountsPending self.old.refused self.new.refused (pending_view p)) }
+    {
         let mut stream = self.stream(key, piece.is_first);
         let before = stream.report();
         let mut refusals = Vec::new(self.alloc);
@@ -140,8 +194,8 @@ impl Writer {
             Err(_) => return Err(BatchFault::Memory),
         }
         if !piece.is_last {
-            self.tally = sum(self.tally, before, stream.report());
-            self.streams.insert(key, stream)?;
+            self.count(before, stream.report(), &refusals)?;
+            self.keep(key, stream)?;
             return Ok(Pending::Lines {
                 refusals,
                 report: None,
@@ -149,7 +203,7 @@ impl Writer {
         }
         match stream.end(usize::MAX, &mut refusals, keeper, clock, rt) {
             Ok(report) => {
-                self.tally = sum(self.tally, before, report);
+                self.count(before, report, &refusals)?;
                 Ok(Pending::Lines {
                     refusals,
                     report: Some(report),
@@ -177,6 +231,15 @@ impl Writer {
               given = C.given clock.old;
               since = C.given clock.new;
             }) (pending_view w.pending))) }
+        ensures piece { IfOk result (λ w. OfPiece item.work (λ p. TookPiece self.old self.new item.key
+            p (record {
+              before = keeper.old;
+              now = keeper.new;
+              given = C.given clock.old;
+              since = C.given clock.new;
+            }) (pending_view w.pending))) }
+        ensures counted { IfOk result (λ w.
+            CountsPending self.old.refused self.new.refused (pending_view w.pending)) }
     {
         let key = item.key;
         let pending = match item.work {

@@ -67,7 +67,7 @@ item_served rules k lines text report item [] later false e few =
 item_served rules k lines text report item (moment ∷ more) later false e few = absurd (omega (arith, few))
 
 -- moments are given as lines ask for them
-asked_more : (rules : Rules) (handed : List Item) (item : Item) (given asked : List ℤ)
+pub asked_more : (rules : Rules) (handed : List Item) (item : Item) (given asked : List ℤ)
     → length given ≡ count_by (asks_clock rules) handed → length asked ≡ moments_asked rules item
     → length (given ++ asked) ≡ count_by (asks_clock rules) (handed ++ item ∷ [])
 asked_more rules handed item given asked before here =

@@ -14,3 +14,4 @@ pub mod SeatsLemmas
 pub mod RoundsLemmas
 pub mod PullsLemmas
 pub mod LineStreamLemmas
+pub mod AmongLemmas

@@ -1,5 +1,5 @@
 -- How the code takes the lines of a connection.
-use Rattle.std.specs.Prelude.{◌≡◌, ◌≢◌, ◌⊎◌, ℕ, ◌+◌, ◌^◌, ◌<◌, ◌≤◌, ℤ, true, false, List, [], ◌∷◌, ◌++◌, length, count_by, Result, Ok, Err, Option, IfOk, OnErr, OnOk, if◌then◌else◌}
+use Rattle.std.specs.Prelude.{◌≡◌, ◌≢◌, ◌⊎◌, ℕ, ◌+◌, ◌^◌, ◌<◌, ◌≤◌, ℤ, true, false, List, [], ◌∷◌, ◌++◌, length, count_by, fold, Result, Ok, Err, Option, IfOk, OnErr, OnOk, if◌then◌else◌}
 use Rattle.std.specs.declared.alloc.AllocError.{AllocError}
 use Rattle.std.specs.Io.KnownBytes.{Appends}
 use mathlib.Core.List.{IsPrefix}
@@ -26,7 +26,7 @@ use Rattle.rr_node.specs.declared.report.Report.{Report}
 use Rattle.rr_node.specs.declared.rules.Rules.{Rules}
 use Rattle.rr_host.specs.Clock.{HasGiven}
 use Rattle.rr_node.specs.Blame.{StaysFlushed, WritesOut}
-use Rattle.rr_node.specs.Lines.{Verdict, skipped, put, refused, Served, after, answer_of, asks_clock, first_of, keeper_with, keeper_with_some, keeper_within, verdict_of, verdict_of_point}
+use Rattle.rr_node.specs.Lines.{Verdict, skipped, put, refused, Served, after, answer_of, asks_clock, first_of, keeper_with, keeper_with_some, keeper_within, verdict_of, verdict_of_point, with_item}
 
 -- the answer tells what came of a verdict
 abbrev pub IsAnswer : Verdict → Answer → Type 0
@@ -135,6 +135,8 @@ pub record HasServed (c : Connection) (start : KeeperState) (pushed : List ℕ) 
 pub record IsNew (expected : Rules) (c : Connection) : Type 0 where
   pub feed : c.feed ≡ empty_feed
   pub pieces : c.pieces ≡ 0
+  pub lines : c.lines ≡ 0
+  pub report : c.report ≡ record { points = 0; samples = 0; refused = 0 }
   pub rules : c.rules ≡ expected
   pub nothing : (start : KeeperState) → HasServed c start [] [] start []
 
@@ -153,6 +155,28 @@ pub record ServedAllItems (old new : Connection) (before now : KeeperState) (mom
     : Type 0 where
   pub items : ServedItems old new before now moments answers
   pub all_taken : items_left new.feed ≡ []
+
+-- ---- among the writes of others
+
+-- these items were handed out, and served from a keeper on with these moments and answers, whatever was served before, for
+-- this connection or for others, and whatever the clock gives later
+pub record ServesAmong (old new : Connection) (before now : KeeperState) (handed : List Item) (moments : List ℤ)
+    (answers : List ℕ) : Type 0 where
+  pub fed : (pushed : List ℕ) (earlier : List Item) → IsFed pushed earlier old.feed
+      → IsFed pushed (earlier ++ handed) new.feed
+  pub asked : length moments ≡ count_by (asks_clock new.rules) handed
+  pub served : (later : List ℤ) → fold (with_item new.rules) (served_so_far old before [] (moments ++ later)) handed
+      ≡ served_so_far new now answers later
+  pub rules : new.rules ≡ old.rules
+
+-- these are all that could be handed out
+pub record ServesAllAmong (old new : Connection) (before now : KeeperState) (handed : List Item) (moments : List ℤ)
+    (answers : List ℕ) : Type 0 where
+  pub items : ServesAmong old new before now handed moments answers
+  pub all_taken : items_left new.feed ≡ []
+  pub ended : new.feed.ended ≡ old.feed.ended
+
+-- ---- where it ends
 
 -- the inputs that begin with what was pushed
 abbrev pub ComesAfter : FeedState → List ℕ → List ℕ → Type 0

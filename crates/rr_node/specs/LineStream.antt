@@ -1,13 +1,14 @@
 -- The lines of a stream, as they are taken piece by piece.
-use Rattle.std.specs.Prelude.{◌≡◌, ℕ, ℤ, true, false, List, [], ◌++◌, length, count_by}
+use Rattle.std.specs.Prelude.{◌≡◌, ℕ, ℤ, true, false, List, [], ◌++◌, length, count_by, fold}
 use Rattle.rr_feed.specs.Feed.{items_left}
-use Rattle.rr_feed.specs.Items.{items}
+use Rattle.rr_feed.specs.Items.{Item, items}
+use Rattle.rr_feed.specs.Laws.{IsFed}
 use Rattle.rr_desk.specs.KeeperState.{KeeperState}
 use Rattle.rr_node.specs.declared.line_stream.LineStream.{LineStream}
 use Rattle.rr_node.specs.declared.report.Report.{Report}
 use Rattle.rr_node.specs.declared.rules.Rules.{Rules}
-use Rattle.rr_node.specs.Connection.{HasServed, EndsWithin}
-use Rattle.rr_node.specs.Lines.{after, asks_clock}
+use Rattle.rr_node.specs.Connection.{HasServed, EndsWithin, served_so_far}
+use Rattle.rr_node.specs.Lines.{Served, after, asks_clock, with_item}
 
 -- how its lines are taken
 abbrev pub rules_by : LineStream → Rules
@@ -58,3 +59,42 @@ Ends old before now moments answers counted =
     (start : KeeperState) (came : List ℕ) (given : List ℤ) (answered : List ℕ)
     → HasTaken old start came given before answered
     → AreTaken (rules_by old) start now came (given ++ moments) (answered ++ answers) counted
+
+-- ---- among the writes of others
+
+-- a stream with a keeper, where these answers were added, and these moments are to come
+abbrev pub stands : LineStream → KeeperState → List ℕ → List ℤ → Served
+stands s keeper answers moments = served_so_far s.connection keeper answers moments
+
+-- of the bytes that came these lines were handed out, which are all that are whole; more may come
+pub record HasHanded (s : LineStream) (came : List ℕ) (handed : List Item) : Type 0 where
+  pub fed : IsFed came handed s.connection.feed
+  pub whole : items_left s.connection.feed ≡ []
+  pub going : s.connection.feed.ended ≡ false
+
+-- a stream of which nothing came
+pub record IsFresh (s : LineStream) : Type 0 where
+  pub handed : HasHanded s [] []
+  pub lines : s.connection.lines ≡ 0
+  pub report : report_of s ≡ record { points = 0; samples = 0; refused = 0 }
+
+-- a stream has taken these bytes more: it handed out these lines, which were served from a keeper on, with the numbers
+-- that follow those of its lines before; whatever others wrote since these
+pub record TakesAmong (old new : LineStream) (before now : KeeperState) (bytes : List ℕ) (handed : List Item)
+    (moments : List ℤ) (answers : List ℕ) : Type 0 where
+  pub fed : (came : List ℕ) (earlier : List Item) → HasHanded old came earlier
+      → HasHanded new (came ++ bytes) (earlier ++ handed)
+  pub asked : length moments ≡ count_by (asks_clock (rules_by new)) handed
+  pub served : (later : List ℤ) → fold (with_item (rules_by new)) (stands old before [] (moments ++ later)) handed
+      ≡ stands new now answers later
+  pub rules : rules_by new ≡ rules_by old
+
+-- a stream ended: with these lines, which were served from a keeper on, it has handed out all lines of the bytes that
+-- came; whatever others wrote before
+pub record EndsAmong (old : LineStream) (before now : KeeperState) (handed : List Item) (moments : List ℤ)
+    (answers : List ℕ) (counted : Report) : Type 0 where
+  pub lines : ℕ
+  pub fed : (came : List ℕ) (earlier : List Item) → HasHanded old came earlier → earlier ++ handed ≡ items true came
+  pub asked : length moments ≡ count_by (asks_clock (rules_by old)) handed
+  pub served : (later : List ℤ) → fold (with_item (rules_by old)) (stands old before [] (moments ++ later)) handed
+      ≡ record { keeper = now; moments = later; lines = lines; answers = answers; report = counted }

@@ -3,6 +3,7 @@
 ghost use Rattle.std.specs.Prelude.{◌≡◌, ◌≢◌, ℕ, ◌+◌, ◌*◌, ◌<◌, ◌≤◌, ◌^◌, ℤ, false, true, List, [], ◌++◌, length, OnOk, OnErr};
 ghost use Rattle.rr_text.specs.declared.limits.TheConstants.{MAX_FIELDS};
 ghost use Rattle.rr_feed.specs.declared.piece.TheConstants.{PIECE};
+ghost use Rattle.rr_feed.specs.Items.{Item};
 ghost use Rattle.rr_host.specs.Clock.{HasGiven};
 ghost use Rattle.rr_io.specs.Stream.{Writes};
 ghost use Rattle.rr_io.specs.Counted.{is_flushed};
@@ -45,7 +46,7 @@ pub(crate) struct Connection {
 }
 
 impl Connection {
-    ghost use Rattle.rr_node.specs.Connection.{AnswersLines, Finishes, IsFew, IsNew, ConnectionMayTake, ConnectionTakesPiece, ServedAllItems, StoppedByMemory, counted_in, text_to};
+    ghost use Rattle.rr_node.specs.Connection.{AnswersLines, Finishes, IsFew, IsNew, ConnectionMayTake, ConnectionTakesPiece, ServedAllItems, ServesAllAmong, StoppedByMemory, counted_in, text_to};
     ghost use Rattle.rr_feed.specs.Feed.{state};
 
     /// No line came yet.
@@ -158,6 +159,10 @@ impl Connection {
             × HasGiven (C.given clock.old) (C.given clock.new) moments
             × (answers.new.items ≡ answers.old.items ++ text)
             × ServedAllItems self.old self.new keeper.old keeper.new moments text) }
+        ensures among { OnOk result ((handed : List Item) × (moments : List ℤ) × (text : List ℕ)
+            × HasGiven (C.given clock.old) (C.given clock.new) moments
+            × (answers.new.items ≡ answers.old.items ++ text)
+            × ServesAllAmong self.old self.new keeper.old keeper.new handed moments text) }
         ensures ended { OnErr result ((moments : List ℤ)
             × HasGiven (C.given clock.old) (C.given clock.new) moments
             × StoppedByMemory self.old keeper.old keeper.new moments) }

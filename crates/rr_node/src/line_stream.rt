@@ -2,6 +2,7 @@
 
 ghost use Rattle.std.specs.Prelude.{◌≡◌, ◌≤◌, ℕ, ℤ, List, [], ◌++◌, take, length, OnErr, OnOk, IfOk};
 ghost use Rattle.rr_feed.specs.declared.piece.TheConstants.{PIECE};
+ghost use Rattle.rr_feed.specs.Items.{Item};
 ghost use Rattle.rr_host.specs.Clock.{HasGiven};
 ghost use Rattle.rr_io.specs.Counted.{one_more};
 ghost use Rattle.rr_desk.specs.KeeperState.{KeeperState};
@@ -29,13 +30,15 @@ pub struct LineStream {
 }
 
 impl LineStream {
-    ghost use Rattle.rr_node.specs.LineStream.{Ends, HasTaken, Stops, Takes, report_of, rules_by};
+    ghost use Rattle.rr_node.specs.LineStream.{Ends, EndsAmong, HasTaken, IsFresh, Stops, Takes};
+    ghost use Rattle.rr_node.specs.LineStream.{TakesAmong, report_of, rules_by};
 
     /// A stream of which nothing has come. The times of its lines have this precision, and may be
     /// ahead of the clock by `lead` nanoseconds, or by any where that is missing.
     pub fn new(alloc: Global, precision: Precision, lead: Option<u64>) -> LineStream
         ensures rules { rules_by result ≡ rules_of precision lead }
         ensures nothing { (start : KeeperState) → HasTaken result start [] [] start [] }
+        ensures fresh { IsFresh result }
     {
         LineStream {
             connection: Connection::new(alloc, Rules { precision, lead }),
@@ -64,6 +67,10 @@ impl LineStream {
             × HasGiven (C.given clock.old) (C.given clock.new) moments
             × (answers.new.items ≡ answers.old.items ++ text)
             × Takes self.old self.new keeper.old keeper.new piece.now moments text) }
+        ensures among { OnOk result ((handed : List Item) × (moments : List ℤ) × (text : List ℕ)
+            × HasGiven (C.given clock.old) (C.given clock.new) moments
+            × (answers.new.items ≡ answers.old.items ++ text)
+            × TakesAmong self.old self.new keeper.old keeper.new piece.now handed moments text) }
         ensures stopped { OnErr result ((moments : List ℤ)
             × HasGiven (C.given clock.old) (C.given clock.new) moments
             × Stops self.old keeper.old keeper.new piece.now moments) }
@@ -97,6 +104,10 @@ impl LineStream {
             × HasGiven (C.given clock.old) (C.given clock.new) moments
             × (answers.new.items ≡ take limit (answers.old.items ++ text))
             × Takes self.old self.new keeper.old keeper.new bytes.now moments text) }
+        ensures among { OnOk result ((handed : List Item) × (moments : List ℤ) × (text : List ℕ)
+            × HasGiven (C.given clock.old) (C.given clock.new) moments
+            × (answers.new.items ≡ take limit (answers.old.items ++ text))
+            × TakesAmong self.old self.new keeper.old keeper.new bytes.now handed moments text) }
         ensures stopped { OnErr result ((moments : List ℤ)
             × HasGiven (C.given clock.old) (C.given clock.new) moments
             × Stops self.old keeper.old keeper.new bytes.now moments) }
@@ -128,6 +139,10 @@ impl LineStream {
             × HasGiven (C.given clock.old) (C.given clock.new) moments
             × (answers.new.items ≡ take limit (answers.old.items ++ text))
             × Ends self keeper.old keeper.new moments text report) }
+        ensures among { IfOk result (λ report. (handed : List Item) × (moments : List ℤ)
+            × (text : List ℕ) × HasGiven (C.given clock.old) (C.given clock.new) moments
+            × (answers.new.items ≡ take limit (answers.old.items ++ text))
+            × EndsAmong self keeper.old keeper.new handed moments text report) }
     {
         let mut connection = self.connection;
         connection.end();

@@ -68,7 +68,7 @@ abbrev pub archive_samples : List ArchiveRows → List SampleView
 archive_samples archives = map archive_sample archives
 
 abbrev pub refused_sample : RefusedLines → SampleView
-refused_sample refused = labelled (codes "fault") refused.fault.now refused.lines
+refused_sample refused = labelled (codes "fault") refused.fault.items refused.lines
 
 abbrev pub refused_samples : List RefusedLines → List SampleView
 refused_samples refused = map refused_sample refused

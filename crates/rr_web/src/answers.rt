@@ -11,7 +11,7 @@ use std::alloc::{AllocError, Global};
 
 /// In what form a fetch is answered.
 #[derive(Clone, Copy, Debug, PartialEq, Eq)]
-pub enum Form {
+pub(crate) enum Form {
     /// Records of CSV, as the fetch port has them.
     Csv,
     /// JSON: the key, and its rows.
@@ -33,7 +33,7 @@ fn form_of(name: &[u8]) -> Option<Form>
 
 /// The form that a query names as its `format`: CSV if it names none, and none if there is no such
 /// form. The cost is linear in the query.
-pub fn form_in(alloc: Global, query: &[u8]) -> Result<Option<Form>, AllocError>
+pub(crate) fn form_in(alloc: Global, query: &[u8]) -> Result<Option<Form>, AllocError>
     ensures { IfOk result (λ form. form ≡ form_in query.now) }
 {
     match parameter(alloc, query, b"format")? {
@@ -66,7 +66,7 @@ pub(crate) fn records_reply(
 }
 
 /// What is answered where a query is refused by this name, as the fetch port words a refusal.
-pub fn refusal_reply(alloc: Global, name: &str) -> Result<Reply, AllocError>
+pub(crate) fn refusal_reply(alloc: Global, name: &str) -> Result<Reply, AllocError>
     ensures { IfOk result (λ reply. reply_view reply
         ≡ reply_of Status.BadRequest Kind.Plain (refusal_text name.now)) }
 {

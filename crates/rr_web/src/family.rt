@@ -13,7 +13,7 @@ use std::alloc::AllocError;
 
 /// What the numbers of a family are.
 #[derive(Clone, Copy, Debug, PartialEq, Eq)]
-pub enum FamilyKind {
+pub(crate) enum FamilyKind {
     /// They count from 0 at the start on. The name of the family ends in `_total`.
     Counter,
     /// They rise and fall.
@@ -22,7 +22,7 @@ pub enum FamilyKind {
 
 /// A number.
 #[derive(Clone, Copy, Debug, PartialEq, Eq)]
-pub enum Amount {
+pub(crate) enum Amount {
     /// A whole number.
     Whole(u64),
     /// So many thousandths, written with a decimal point: milliseconds as seconds.
@@ -31,33 +31,33 @@ pub enum Amount {
 
 /// What tells a sample from the others of its family.
 #[derive(Debug, Drop)]
-pub struct Label {
+pub(crate) struct Label {
     /// The name: letters, digits and `_`, and no digit first.
-    pub name: &'static [u8],
+    pub(crate) name: &'static [u8],
     /// The value: any text.
-    pub value: Vec<u8>,
+    pub(crate) value: Vec<u8>,
 }
 
 /// A number of a family.
 #[derive(Debug, Drop)]
-pub struct Sample {
+pub(crate) struct Sample {
     /// What tells it from the others; no label where there is one sample alone.
-    pub labels: Vec<Label>,
+    pub(crate) labels: Vec<Label>,
     /// The number.
-    pub amount: Amount,
+    pub(crate) amount: Amount,
 }
 
 /// Numbers of one meaning.
 #[derive(Debug, Drop)]
-pub struct Family {
+pub(crate) struct Family {
     /// The name: letters, digits, `_` and `:`, and no digit first.
-    pub name: &'static [u8],
+    pub(crate) name: &'static [u8],
     /// What the numbers are, for people.
-    pub help: &'static [u8],
+    pub(crate) help: &'static [u8],
     /// What they are, for who reads them.
-    pub kind: FamilyKind,
+    pub(crate) kind: FamilyKind,
     /// The numbers.
-    pub samples: Vec<Sample>,
+    pub(crate) samples: Vec<Sample>,
 }
 
 /// The name of a kind.
@@ -227,7 +227,7 @@ fn push_samples(text: &mut Vec<u8>, name: &[u8], samples: &[Sample]) -> Result<(
 /// Adds a family: its help and its kind, then a line for each sample. In a help and in the value of
 /// a label a backslash and a line feed are escaped, and in a value a quote too. The cost is linear
 /// in what is added.
-pub fn push_family(text: &mut Vec<u8>, family: &Family) -> Result<(), AllocError>
+pub(crate) fn push_family(text: &mut Vec<u8>, family: &Family) -> Result<(), AllocError>
     ensures { OnOk result (text.new.items
         ≡ text.old.items ++ family_text (family_view family.now)) }
 {

@@ -173,7 +173,7 @@ fn rows_reply<A: Cells>(
 /// a refusal. The first of these is due: `BadFormat`, for a form that there isn't; `BadCommand`,
 /// for a parameter that is missing; and those of [`read_request`]. The cost is that of
 /// [`Reader::fetch`], and linear in the query.
-pub fn fetch_reply<A: Cells>(
+pub(crate) fn fetch_reply<A: Cells>(
     alloc: Global,
     query: &[u8],
     now: i64,

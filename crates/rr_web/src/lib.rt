@@ -3,11 +3,8 @@
 //! ```text
 //! target ── target_parts ──> a path and a query
 //! method and path ── asked_by ──> Ask
-//! query ── parameter ──> a value
 //! request that reads ── read_reply, by a reader ──> Reply: a status, a kind of text, and the text
-//!     fetch_reply ──> the rows of a fetch, CSV or JSON
-//!     series_reply ──> the keys of series, a line each
-//!     page_reply ──> a page, its script and its style
+//!     the rows of a fetch, CSV or JSON; the keys of series, a line each; numbers, health; a page
 //! request that writes ── refused_write ──> a Reply, or none: then its lines are to be taken
 //! refusals and report of lines ── write_reply ──> Reply
 //! numbers of a node ── metrics_text ──> the text form of Prometheus
@@ -44,21 +41,13 @@ mod target;
 mod texts;
 mod writes;
 
-pub use answers::refusal_reply;
 pub use ask::{Ask, asked_by};
-pub use family::{Amount, Family, FamilyKind, Label, Sample, push_family};
-pub use fetches::fetch_reply;
-pub use listing::series_reply;
 pub use node_metrics::{
     AnswerCounts, ArchiveRows, NodeMetrics, RefusedLines, archive_rows, metrics_text,
 };
-pub use precision::is_precision;
-pub use query::parameter;
 pub use read::read_reply;
 pub use refusals::refused_write;
-pub use reply::{Kind, Reply, Status};
+pub use reply::Reply;
 pub use response::response_of;
-pub use series::{CountFault, count_in, push_keys};
 pub use target::target_parts;
-pub use texts::{found, page_reply};
 pub use writes::write_reply;

@@ -112,7 +112,7 @@ fn keys_reply<A: Cells>(
 /// `BadNumber` and `BadCount`, of the count; and `BadKey`, of an `after` that is no key text. The
 /// cost is that of [`Reader::keys_after`] for the keys that are listed; with a prefix, for all from
 /// behind `after` up to the last one that begins with it.
-pub fn series_reply<A: Cells>(
+pub(crate) fn series_reply<A: Cells>(
     alloc: Global,
     query: &[u8],
     reader: &mut Reader<A>,

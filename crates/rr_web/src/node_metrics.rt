@@ -25,10 +25,10 @@ pub struct ArchiveRows {
 }
 
 /// Lines that were refused for one reason.
-#[derive(Clone, Copy, Debug)]
+#[derive(Debug, Drop)]
 pub struct RefusedLines {
-    /// The name of their fault.
-    pub fault: &'static str,
+    /// The name of their fault: any text.
+    pub fault: Vec<u8>,
     /// How many there were since the start.
     pub lines: u64,
 }

@@ -19,7 +19,7 @@ fn short_name(precision: Precision) -> &'static [u8]
 
 /// Whether a text names this precision, as writes over HTTP name one: `n` or `ns`, `u` or `us`,
 /// `ms`, `s`.
-pub fn is_precision(text: &[u8], precision: Precision) -> bool
+pub(crate) fn is_precision(text: &[u8], precision: Precision) -> bool
     ensures { result ≡ is_precision text.now precision }
 {
     text == precision.name().as_bytes() || text == short_name(precision)

@@ -38,7 +38,11 @@ fn decoded(alloc: Global, text: &[u8]) -> Result<Vec<u8>, AllocError>
 
 /// The value of the first parameter of this name in a query, if there is one: the bytes that it
 /// stands for. The cost is linear in the query.
-pub fn parameter(alloc: Global, query: &[u8], name: &[u8]) -> Result<Option<Vec<u8>>, AllocError>
+pub(crate) fn parameter(
+    alloc: Global,
+    query: &[u8],
+    name: &[u8],
+) -> Result<Option<Vec<u8>>, AllocError>
     ensures { IfOk result (λ value. option_map (λ text. text.items) value
         ≡ parameter_of query.now name.now) }
 {

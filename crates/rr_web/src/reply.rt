@@ -2,7 +2,7 @@
 
 /// How a request ended.
 #[derive(Clone, Copy, Debug, PartialEq, Eq)]
-pub enum Status {
+pub(crate) enum Status {
     /// 200: here is what was asked for.
     Ok,
     /// 204: all lines were taken, or the node is there.
@@ -25,7 +25,7 @@ pub enum Status {
 
 /// What a reply's text is.
 #[derive(Clone, Copy, Debug, PartialEq, Eq)]
-pub enum Kind {
+pub(crate) enum Kind {
     /// Records of CSV.
     Csv,
     /// JSON.
@@ -46,9 +46,9 @@ pub enum Kind {
 #[derive(Debug, Drop)]
 pub struct Reply {
     /// How it ended.
-    pub status: Status,
+    pub(crate) status: Status,
     /// What the text is.
-    pub kind: Kind,
+    pub(crate) kind: Kind,
     /// The text.
-    pub text: Vec<u8>,
+    pub(crate) text: Vec<u8>,
 }

@@ -74,7 +74,7 @@ pub(crate) fn archive_samples(
 fn refused_sample(alloc: Global, refused: &RefusedLines) -> Result<Sample, AllocError>
     ensures { IfOk result (λ sample. sample_view sample ≡ refused_sample refused.now) }
 {
-    let fault = Vec::from_slice(alloc, refused.fault.as_bytes())?;
+    let fault = Vec::from_slice(alloc, &refused.fault)?;
     labelled(alloc, b"fault", fault, refused.lines)
 }
 

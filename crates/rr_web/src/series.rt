@@ -25,7 +25,7 @@ const _: () = prove!(MAX_KEYS == 10_000);
 
 /// Why a number of keys is refused.
 #[derive(Clone, Copy, Debug, PartialEq, Eq)]
-pub enum CountFault {
+pub(crate) enum CountFault {
     /// It is no number below 2^64.
     BadNumber,
     /// It isn't from 1 to 10,000.
@@ -34,7 +34,7 @@ pub enum CountFault {
 
 impl CountFault {
     /// The printed name.
-    pub fn name(&self) -> &'static str
+    pub(crate) fn name(&self) -> &'static str
         ensures { result.now ≡ count_fault_name self.now }
     {
         match self {
@@ -57,7 +57,7 @@ fn count_at(text: &[u8]) -> Result<u64, CountFault>
 
 /// How many keys a query asks for as its `count`: 1,000 if it doesn't say. The cost is linear in
 /// the query.
-pub fn count_in(alloc: Global, query: &[u8]) -> Result<Result<u64, CountFault>, AllocError>
+pub(crate) fn count_in(alloc: Global, query: &[u8]) -> Result<Result<u64, CountFault>, AllocError>
     ensures { IfOk result (λ count. count ≡ count_in (parameter_of query.now (codes "count"))) }
 {
     match parameter(alloc, query, b"count")? {
@@ -77,7 +77,7 @@ fn push_key(text: &mut Vec<u8>, key: &[u8]) -> Result<(), AllocError>
 
 /// Adds a line for each key that begins with a prefix, as long as so many are left. The answer is
 /// how many are left then. The cost is linear in the keys.
-pub fn push_keys(
+pub(crate) fn push_keys(
     text: &mut Vec<u8>,
     keys: &[SeriesKey],
     prefix: &[u8],

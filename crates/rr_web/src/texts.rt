@@ -12,7 +12,7 @@ use crate::style::STYLE;
 use std::alloc::{AllocError, Global};
 
 /// A text of this kind, which was asked for.
-pub fn found(alloc: Global, kind: Kind, text: &str) -> Result<Reply, AllocError>
+pub(crate) fn found(alloc: Global, kind: Kind, text: &str) -> Result<Reply, AllocError>
     ensures { IfOk result (λ reply. reply_view reply ≡ reply_of Status.Ok kind text.now) }
 {
     Ok(Reply {
@@ -23,7 +23,7 @@ pub fn found(alloc: Global, kind: Kind, text: &str) -> Result<Reply, AllocError>
 }
 
 /// The page, its script or its style; the page for any other ask.
-pub fn page_reply(alloc: Global, ask: Ask) -> Result<Reply, AllocError>
+pub(crate) fn page_reply(alloc: Global, ask: Ask) -> Result<Reply, AllocError>
     ensures { IfOk result (λ reply. IsFound (page_kind ask) (reply_view reply)) }
 {
     match ask {

@@ -193,9 +193,9 @@ impl<F: Write + Seek + OpenFile + Drop> Keeping<F> {
             self.take(rt, path, keeper, clock, items)?;
         }
         self.note_checkpoint(rt);
-        let (tally, offset) = (self.writer.tally(), self.logbook.cursor.offset);
+        let offset = self.logbook.cursor.offset;
         self.numbers
-            .post(rt, self.alloc, keeper, tally, offset, &self.shared);
+            .post(rt, self.alloc, keeper, &self.writer, offset, &self.shared);
         Ok(())
     }
 

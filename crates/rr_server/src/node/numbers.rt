@@ -1,12 +1,13 @@
 //! The numbers of a node, for those who watch it.
 
 use crate::node::shared::{Answered, Shared};
+use rr_batch::Writer;
 use rr_command_line::VERSION;
 use rr_desk::Keeper;
 use rr_node::Report;
 use rr_packed::PackedArchive;
 use rr_schema::Origin;
-use rr_web::{AnswerCounts, NodeMetrics, RefusedLines, archive_rows, metrics_text};
+use rr_web::{AnswerCounts, NodeMetrics, archive_rows, metrics_text};
 use std::alloc::{AllocError, Global};
 use std::sync::Wait;
 use std::sync::atomic::Ordering;
@@ -91,16 +92,12 @@ impl Numbers {
         rt: &R,
         alloc: Global,
         keeper: &Keeper<PackedArchive>,
-        tally: Report,
+        writer: &Writer,
         offset: u64,
         shared: &Shared,
     ) -> Result<NodeMetrics, AllocError> {
         let answered: &Answered = &shared.answered;
-        let mut refused = Vec::new(alloc);
-        refused.push(RefusedLines {
-            fault: "any",
-            lines: tally.refused,
-        })?;
+        let tally: Report = writer.tally();
         Ok(NodeMetrics {
             version: VERSION,
             origin: u64::from(self.origin.get()),
@@ -117,7 +114,7 @@ impl Numbers {
             },
             points: tally.points,
             samples: tally.samples,
-            refused,
+            refused: writer.refused().to_lines()?,
             past_horizon: keeper.past_horizon(),
             journal_offset: offset,
             journal_synced: offset,
@@ -143,7 +140,7 @@ impl Numbers {
         rt: &R,
         alloc: Global,
         keeper: &Keeper<PackedArchive>,
-        tally: Report,
+        writer: &Writer,
         offset: u64,
         shared: &Shared,
     ) {
@@ -153,7 +150,7 @@ impl Numbers {
         self.posted = Instant::now(rt).ok();
         self.count_cells(rt, keeper);
         // If there is no memory for them, the last ones stay.
-        if let Ok(metrics) = self.metrics(rt, alloc, keeper, tally, offset, shared)
+        if let Ok(metrics) = self.metrics(rt, alloc, keeper, writer, offset, shared)
             && let Ok(text) = metrics_text(alloc, &metrics)
         {
             shared.metrics.put(rt, text);

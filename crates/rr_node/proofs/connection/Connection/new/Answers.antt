@@ -6,6 +6,8 @@ pub returns : goal.returns
 returns c = record {
   feed = search rules;
   pieces = search rules;
+  lines = refl;
+  report = refl;
   rules = search rules;
   nothing = λ start. HasServed-new _ start c.new.ensures refl refl;
 }

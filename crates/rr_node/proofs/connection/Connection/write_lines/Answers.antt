@@ -1,4 +1,4 @@
-use Rattle.std.proofs.Common.{ℕ, ◌+◌, Some, None, List, [], ◌++◌, refl, sym, ap, ◌∙◌, append_assoc, append-nil, rules}
+use Rattle.std.proofs.Common.{ℕ, ◌+◌, Some, None, List, [], ◌∷◌, ◌++◌, refl, sym, ap, ◌∙◌, append_assoc, append-nil, rules}
 use Rattle.std.proofs.lemmas.Result.{err_from_is_err_and}
 use Rattle.rr_feed.specs.Items.{item_view}
 use Rattle.rr_feed.specs.Feed.{HandsOut}
@@ -6,6 +6,7 @@ use Rattle.rr_feed.proofs.FedLemmas.{items_left-handed}
 use Rattle.rr_node.specs.Connection.{text_to}
 use Rattle.rr_host.proofs.ClockLemmas.{HasGiven-nil, HasGiven-trans}
 use Rattle.rr_node.proofs.ConnectionLemmas.{ServedItems-nothing, ServedItems-item, ServedItems-none, StoppedByMemory-taking, StoppedByMemory-after, taken_whole}
+use Rattle.rr_node.proofs.AmongLemmas.{ServesAmong-item, ServesAmong-none, ServesAmong-nothing}
 use Rattle.rr_node.proofs.connection.Connection.write_lines.Goals as goal
 
 pub loop-item-init : goal.loop-item-init
@@ -16,6 +17,14 @@ loop-item-init g c = record {
     HasGiven-nil _,
     sym (append-nil c.args.answers.now.items),
     ServedItems-nothing c.args.self.now c.args.keeper.now,
+  );
+  among = (
+    [],
+    [],
+    [],
+    HasGiven-nil _,
+    sym (append-nil c.args.answers.now.items),
+    ServesAmong-nothing c.args.self.now c.args.keeper.now,
   );
   renewals = refl;
 }
@@ -107,6 +116,26 @@ loop-item-preserved g c =
               pieces = counted.pieces;
             }) so_far.4,
       );
+      among =
+          let others = c.loop-item.invariant.among in (
+            others.0 ++ item ∷ [],
+            others.1 ++ takes.asked,
+            others.2 ++ text,
+            HasGiven-trans _ _ _ others.1 takes.asked others.3 takes.gave,
+            counted.answered ∙ ap (λ (t : List ℕ). t ++ text) others.4
+                ∙ append_assoc c.args.answers.now.items others.2 text,
+            ServesAmong-item c.args.self.now old c.count.new.self c.args.keeper.now c.loop-item.keeper _ others.0
+                others.1 takes.asked others.2 item answer (record {
+                  hands = rw counted.feed hands;
+                  few = whole.0;
+                  keeper = rw (lines, whole.1) at c.in_ok-publish_in_turn.ensures.published;
+                  reported = whole.2;
+                  lines = lines;
+                  report = counted.report;
+                  rules = counted.rules;
+                  pieces = counted.pieces;
+                }) others.5,
+          );
       renewals = search rules;
     }
 
@@ -124,5 +153,23 @@ returns-clause-served g c =
             c.loop-item.keeper so_far.0 so_far.1 hands (record { lines = refl; report = refl; rules = refl }) refl
             so_far.4;
         all_taken = sym (items_left-handed None _ _ hands) ∙ hands.none refl;
+      },
+    )
+
+pub returns-clause-among : goal.returns-clause-among
+returns-clause-among g c =
+    let hands : HandsOut c.loop-item.self.feed None c.next_line.follows.lender-at-none =
+    rw c.in_default.is at c.next_line.follows.holds-at-none in
+    let others = c.loop-item.invariant.among in (
+      others.0,
+      others.1,
+      others.2,
+      others.3,
+      others.4,
+      record {
+        items = ServesAmong-none c.args.self.now c.loop-item.self _ c.args.keeper.now c.loop-item.keeper others.0
+            others.1 others.2 hands (record { lines = refl; report = refl; rules = refl }) others.5;
+        all_taken = sym (items_left-handed None _ _ hands) ∙ hands.none refl;
+        ended = hands.ended ∙ c.loop-item.invariant.served.4.ended;
       },
     )

@@ -3,6 +3,7 @@ use Rattle.std.proofs.lemmas.List.{take-append-drop}
 use Rattle.std.proofs.lemmas.Result.{err_from_is_err_and}
 use Rattle.rr_host.proofs.ClockLemmas.{HasGiven-nil, HasGiven-trans}
 use Rattle.rr_node.proofs.LineStreamLemmas.{Takes-nothing, Takes-trans, stops_later, take_again}
+use Rattle.rr_node.proofs.AmongLemmas.{TakesAmong-nothing, TakesAmong-trans}
 use Rattle.rr_node.proofs.line_stream.LineStream.take.Goals as goal
 
 pub loop-left-init : goal.loop-left-init
@@ -20,6 +21,17 @@ loop-left-init g c =
         kept ∙ ap (take limit) (sym (append-nil before)) ∙ sym (take_again limit before [])
             ∙ ap (λ (l : List ℕ). take limit (l ++ [])) (sym kept),
         Takes-nothing c.args.self.now c.args.keeper.now,
+      );
+      among = (
+        [],
+        [],
+        [],
+        [],
+        refl,
+        HasGiven-nil _,
+        kept ∙ ap (take limit) (sym (append-nil before)) ∙ sym (take_again limit before [])
+            ∙ ap (λ (l : List ℕ). take limit (l ++ [])) (sym kept),
+        TakesAmong-nothing c.args.self.now c.args.keeper.now,
       );
       renewals = refl;
     }
@@ -65,5 +77,21 @@ loop-left-preserved g c =
         Takes-trans c.args.self.now c.loop-left.self _ c.args.keeper.now c.loop-left.keeper _ so_far.0 piece so_far.1
             more.0 so_far.2 more.1 so_far.6 more.4,
       );
+      among =
+          let others = c.loop-left.invariant.among in
+          let next = c.in_ok-take_piece.ensures.among in (
+            others.0 ++ piece,
+            others.1 ++ next.0,
+            others.2 ++ next.1,
+            others.3 ++ next.2,
+            append_assoc others.0 piece rest ∙ ap (λ (l : List ℕ). others.0 ++ l) split ∙ others.4,
+            HasGiven-trans _ _ _ others.2 next.1 others.5 next.3,
+            c.truncate-in-loop-left.ensures.items
+                ∙ ap (take limit) (next.4 ∙ ap (λ (l : List ℕ). l ++ next.2) others.6)
+                ∙ take_again limit (before ++ others.3) next.2
+                ∙ ap (take limit) (append_assoc before others.3 next.2),
+            TakesAmong-trans c.args.self.now c.loop-left.self _ c.args.keeper.now c.loop-left.keeper _ others.0 piece
+                others.1 next.0 others.2 next.1 others.3 next.2 others.7 next.5,
+          );
       renewals = c.in_ok-take_piece.ensures.renewals ∙ c.loop-left.invariant.renewals;
     }

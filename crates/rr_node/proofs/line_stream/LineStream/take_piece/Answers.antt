@@ -2,6 +2,7 @@ use Rattle.std.proofs.Common.{[]}
 use Rattle.std.proofs.lemmas.Result.{err_from_is_err_and}
 use Rattle.rr_host.proofs.ClockLemmas.{HasGiven-nil}
 use Rattle.rr_node.proofs.LineStreamLemmas.{Takes-piece, stops_before, stops_within}
+use Rattle.rr_node.proofs.AmongLemmas.{TakesAmong-piece}
 use Rattle.rr_node.proofs.line_stream.LineStream.take_piece.Goals as goal
 
 pub returns-then-is_closed-clause-stopped : goal.returns-then-is_closed-clause-stopped
@@ -46,4 +47,15 @@ returns-clause-taken g c =
       served.2,
       served.3,
       Takes-piece _ c.push.new.self _ _ _ _ served.0 served.1 c.in_ok-push.ensures served.4,
+    )
+
+pub returns-clause-among : goal.returns-clause-among
+returns-clause-among g c =
+    let served = c.in_ok-write_lines.ensures.among in (
+      served.0,
+      served.1,
+      served.2,
+      served.3,
+      served.4,
+      TakesAmong-piece _ c.push.new.self _ _ _ _ served.0 served.1 served.2 c.in_ok-push.ensures served.5,
     )
