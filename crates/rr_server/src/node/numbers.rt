@@ -13,8 +13,11 @@ use std::sync::Wait;
 use std::sync::atomic::Ordering;
 use std::time::{Clock, Duration, Instant};
 
-/// Once in how many seconds cells are counted at most, which takes time for each series.
+/// The least seconds between two counts of the cells.
 const CELLS_EVERY: u64 = 10;
+
+/// A count of the cells takes time for each series: the next one comes after that many times as long.
+const CELLS_SHARE: u32 = 1_000;
 
 /// What a keeper remembers for the numbers of its node.
 #[derive(Drop)]
@@ -22,8 +25,9 @@ pub(crate) struct Numbers {
     origin: Origin,
     failed_appends: u64,
     cells: usize,
-    /// When cells were counted last.
+    /// When cells were counted last, and how long it is until they are counted again.
     counted: Option<Instant>,
+    count_after: Duration,
     /// When the numbers were put up last.
     posted: Option<Instant>,
     /// When the journal was synced last.
@@ -32,7 +36,7 @@ pub(crate) struct Numbers {
     checkpoint: Option<(Instant, u64)>,
 }
 
-/// Whether so much time is past since a moment; so it is if there is none.
+/// Whether a span of time is past since a moment, or there is no such moment.
 fn is_past(clock: &impl Clock, since: &Option<Instant>, span: Duration) -> bool {
     match since {
         Some(since) => since.elapsed(clock).unwrap_or(span) >= span,
@@ -54,6 +58,7 @@ impl Numbers {
             failed_appends: 0,
             cells: 0,
             counted: None,
+            count_after: Duration::ZERO,
             posted: None,
             synced: None,
             checkpoint: None,
@@ -70,7 +75,7 @@ impl Numbers {
         self.synced = Instant::now(clock).ok();
     }
 
-    /// Notes that a checkpoint of so many bytes has ended.
+    /// Notes that a checkpoint has ended, by its size in bytes.
     pub(crate) fn checkpoint_ended(&mut self, clock: &impl Clock, bytes: u64) {
         self.checkpoint = match Instant::now(clock) {
             Ok(now) => Some((now, bytes)),
@@ -78,12 +83,20 @@ impl Numbers {
         };
     }
 
-    /// Counts the cells, at most every ten seconds.
+    /// Counts the cells, at most every ten seconds, and for a thousandth of the time.
     fn count_cells(&mut self, clock: &impl Clock, keeper: &Keeper<PackedArchive>) {
-        if is_past(clock, &self.counted, Duration::from_secs(CELLS_EVERY)) {
-            self.cells = keeper.cell_count();
-            self.counted = Instant::now(clock).ok();
+        if !is_past(clock, &self.counted, self.count_after) {
+            return;
         }
+        let began = Instant::now(clock).ok();
+        self.cells = keeper.cell_count();
+        let took = match &began {
+            Some(began) => began.elapsed(clock).unwrap_or(Duration::ZERO),
+            None => Duration::ZERO,
+        };
+        let pause = took.saturating_mul(CELLS_SHARE);
+        self.count_after = pause.max(Duration::from_secs(CELLS_EVERY));
+        self.counted = Instant::now(clock).ok();
     }
 
     /// The numbers as they stand.
