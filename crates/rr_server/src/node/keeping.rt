@@ -180,7 +180,7 @@ impl<F: Write + Seek + OpenFile + Drop> Keeping<F> {
         Ok(())
     }
 
-    /// Takes what waits, commits and answers it.
+    /// Puts the numbers up as they stand, and then takes what waits, commits and answers it.
     fn round<C: Clock, R: Files<File = F> + Eprint + Wait + time::Clock>(
         &mut self,
         rt: &R,
@@ -188,14 +188,14 @@ impl<F: Write + Seek + OpenFile + Drop> Keeping<F> {
         keeper: &mut Keeper<PackedArchive>,
         clock: &mut C,
     ) -> Result<(), BatchFault> {
+        let offset = self.logbook.cursor.offset;
+        self.numbers
+            .post(rt, self.alloc, keeper, &self.writer, offset, &self.shared);
         let items = gather(rt, self.alloc, &self.shared.queues)?;
         if !items.is_empty() || !self.is_saved {
             self.take(rt, path, keeper, clock, items)?;
         }
         self.note_checkpoint(rt);
-        let offset = self.logbook.cursor.offset;
-        self.numbers
-            .post(rt, self.alloc, keeper, &self.writer, offset, &self.shared);
         Ok(())
     }
 
