@@ -2,8 +2,7 @@
 
 use super::synced::{DiskCalls, NotedFiles};
 use rr_node::{Opening, Shelf};
-use rr_server::{FileShelf, SaveNews, Saved};
-use rr_snapshot::SaveFault;
+use rr_server::FileShelf;
 use std::fs;
 use std::io::Write;
 use std::rt::Files;
@@ -50,30 +49,5 @@ fn a_snapshot_is_on_the_disk_before_it_has_its_name(rt: HostRuntime) -> Result<(
     fs::remove_file(&rt, "synced.snapshot")?;
     // The file, its name, and then the folder.
     assert!(rt; (put, calls.digits()) == (Some(()), 121));
-    Ok(())
-}
-
-/// What a shelf tells of a save to a file.
-fn told(rt: &(impl AllocGlobal + Files + Eprint), news: &SaveNews, file: &str) -> Option<Saved> {
-    let shelf = FileShelf::new(rt, rt.alloc(), Some(file)).ok()?;
-    let mut shelf = shelf.with_news(news.share().ok()?);
-    match shelf.open() {
-        Opening::Writer(output) => shelf.take_back(output, true),
-        Opening::Failed => shelf.save_failed(SaveFault::WriteFailed),
-        Opening::Unwanted => {}
-    }
-    news.take()
-}
-
-#[test]
-fn each_save_is_told_once(rt: HostRuntime) -> Result<(), Fail> {
-    let news = SaveNews::new(rt.alloc())?;
-    let stands = told(&rt, &news, "told.snapshot");
-    let failed = told(&rt, &news, "no-such-folder/told.snapshot");
-    let nothing = news.take();
-    fs::remove_file(&rt, "told.snapshot")?;
-    assert!(rt; stands == Some(Saved::Stands));
-    assert!(rt; failed == Some(Saved::Failed));
-    assert!(rt; nothing.is_none());
     Ok(())
 }
