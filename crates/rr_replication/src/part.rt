@@ -1,0 +1,100 @@
+//! Which bytes of a journal are given from an offset on.
+ghost use Rattle.std.specs.Prelude.{◌≡◌, ◌<◌, ◌≤◌, IfSome};
+ghost use Rattle.rr_replication.specs.Part.{begins_at, ends_at, later, part_from, sooner};
+
+/// The most bytes of a part.
+pub const MAX_PART: u64 = 4_194_304;
+
+const _: () = prove!(MAX_PART == 4_194_304);
+
+/// The bytes that a journal has from an offset on, as far as they are given at once.
+#[derive(Clone, Copy, Debug, PartialEq, Eq)]
+pub enum Part {
+    /// Bytes of records in one of the journal's files.
+    Bytes {
+        /// The offset at which the file begins, which is that of its name.
+        file: u64,
+        /// How many bytes of the file's records are before them.
+        skip: u64,
+        /// How many they are: one at least, and at most [`MAX_PART`].
+        len: u64,
+    },
+    /// The journal ends there.
+    Nothing,
+    /// The journal doesn't have them: they are no longer in a file, or it doesn't come so far.
+    Gone,
+}
+
+/// The later one of a file's beginning, if there is one, and of another's that is not above an
+/// offset.
+fn later(begin: Option<u64>, file: u64, from: u64) -> Option<u64>
+    ensures { result ≡ later begin file from }
+{
+    if from < file {
+        return begin;
+    }
+    match begin {
+        Some(before) => Some(before.max(file)),
+        None => Some(file),
+    }
+}
+
+/// Where the file begins that has the bytes from an offset on: at the greatest of these offsets that
+/// is not above it.
+fn begins_at(files: &[u64], from: u64) -> Option<u64>
+    ensures begin { result ≡ begins_at files.now from }
+    ensures within { IfSome result (λ begin. begin ≤ from) }
+{
+    let mut begin = None;
+    for file in files {
+        begin = later(begin, *file, from);
+    }
+    begin
+}
+
+/// The sooner one of an end and of a file's beginning, if that is above an offset.
+fn sooner(end: u64, file: u64, from: u64) -> u64
+    ensures { result ≡ sooner end file from }
+{
+    if from < file { end.min(file) } else { end }
+}
+
+/// Where that file ends: at the least of these offsets that is above, or where the journal ends.
+fn ends_at(files: &[u64], end: u64, from: u64) -> u64
+    requires { from < end }
+    ensures end { result ≡ ends_at files.now end from }
+    ensures behind { from < result }
+{
+    let mut until = end;
+    for file in files {
+        until = sooner(until, *file, from);
+    }
+    until
+}
+
+/// Which bytes are given to who asks for those from the offset `from` on, where the journal's files
+/// begin at `files`, in any order, and its last synced end is `end`.
+///
+/// They are in the file that begins last at or before `from`, and end where the next file begins, at
+/// `end`, or after [`MAX_PART`] bytes, whichever is first. `Gone` where no file begins at or before
+/// `from`, or `from` is behind `end`; else `Nothing` where `from` is `end`. The cost is linear in the
+/// files.
+pub fn part_from(files: &[u64], end: u64, from: u64) -> Part
+    ensures { result ≡ part_from files.now end from }
+{
+    let Some(file) = begins_at(files, from) else {
+        return Part::Gone;
+    };
+    if end < from {
+        return Part::Gone;
+    }
+    if end == from {
+        return Part::Nothing;
+    }
+    let until = ends_at(files, end, from);
+    Part::Bytes {
+        file,
+        skip: from - file,
+        len: (until - from).min(MAX_PART),
+    }
+}

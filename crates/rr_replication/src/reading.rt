@@ -1,0 +1,115 @@
+//! What a peer makes of a part.
+ghost use Rattle.std.specs.Prelude.{◌≡◌, ◌<◌, ◌^◌, IfErr, IfSome, OnErr};
+ghost use Rattle.rr_io.specs.Counted.{inner_of};
+ghost use Rattle.rr_journal.specs.Stream.{MovesBy, StepsTo};
+ghost use Rattle.rr_replication.specs.Reading.{Keeps, ends_part, peer_state, after_part};
+ghost use Rattle.rr_text.specs.Results.{Gives, GivesUnless};
+
+use crate::fault::PartFault;
+use crate::record::push_record;
+use rr_cells::Cell;
+use rr_io::Counted;
+use rr_journal::{Cursor, Step, Stop, read_record};
+use rr_schema::Schema;
+use std::alloc::Global;
+use std::io::Read;
+
+/// Reads the record at a place, and moves the place behind it. The input is one that never fails.
+fn step_from<R: Read>(
+    alloc: Global,
+    input: &mut Counted<R>,
+    place: &mut Cursor,
+) -> Result<Step, PartFault>
+    ensures read { StepsTo place.old.digest (R.remaining (inner_of input.old))
+        (R.remaining (inner_of input.new)) result }
+    ensures moves { MovesBy place.old place.new result }
+    ensures fits { place.new.offset < 2 ^ 64 }
+    ensures faults { IfErr result (λ fault. fault ≡ PartFault.Memory) }
+{
+    let step = read_record(alloc, input, place);
+    // The proof needs that the offset is one of 64 bits.
+    let _offset = place.offset;
+    match step {
+        Ok(step) => Ok(step),
+        // The reading of a slice doesn't fail, so memory ran out.
+        Err(_) => Err(PartFault::Memory),
+    }
+}
+
+/// Refuses what is left behind the last whole record, unless a record may be cut there; and a part
+/// of no whole record, unless it has no bytes.
+fn check_end(stop: Stop, is_first: bool) -> Result<(), PartFault>
+    ensures { Gives (λ x. x) result (ends_part stop is_first) }
+{
+    match stop {
+        Stop::End => Ok(()),
+        Stop::Torn if !is_first => Ok(()),
+        Stop::Torn | Stop::Damaged(_) => Err(PartFault::Damaged),
+    }
+}
+
+/// Adds the cells of the records at a place behind others, and moves the place behind the last of
+/// them.
+fn read_records<R: Read>(
+    alloc: Global,
+    input: &mut Counted<R>,
+    place: &mut Cursor,
+    schema: &Schema,
+    cells: &mut Vec<Cell>,
+) -> Result<(), PartFault>
+    ensures read { IfSome (R.remaining (inner_of input.old)) (λ bytes.
+        GivesUnless PartFault.Memory (λ _. peer_state place.new cells.new.items) result
+        (after_part schema.now (peer_state place.old cells.old.items) bytes)) }
+    ensures kept { Keeps cells.old.items cells.new.items }
+{
+    let mut is_first = true;
+    for _ in 0..u64::MAX {
+        match step_from(alloc, input, place)? {
+            Step::Whole(raw) => {
+                push_record(alloc, &raw, schema, cells)?;
+                is_first = false;
+            }
+            Step::Stopped(stop) => return check_end(stop, is_first),
+        }
+    }
+    // No slice has so many records.
+    Err(PartFault::Memory)
+}
+
+/// Reads the whole records at the beginning of a part that was given from `place` on, and adds their
+/// cells behind `cells`, in order; `place` is then behind the last of these records. Origins,
+/// cursors and ends of checkpoints give no cells.
+///
+/// What is left behind the last whole record is let go, since the part's end may cut one: it is to
+/// be asked for again, from `place` on. A part of no bytes changes nothing.
+///
+/// Of the records in order the first that means nothing is refused as `BadRecord`. `Damaged` comes
+/// where each whole record means something, and no record is whole though there are bytes, or more
+/// than [`MAX_RECORD_LEN`](rr_journal::MAX_RECORD_LEN) of them are left. `Memory` comes where memory
+/// runs out. After a refusal `place` and `cells` are as they were. The cost is linear in the bytes
+/// and the cells; cells of one group share their key.
+pub fn read_part(
+    alloc: Global,
+    bytes: &[u8],
+    place: &mut Cursor,
+    schema: &Schema,
+    cells: &mut Vec<Cell>,
+) -> Result<(), PartFault>
+    ensures read { GivesUnless PartFault.Memory (λ _. peer_state place.new cells.new.items) result
+        (after_part schema.now (peer_state place.old cells.old.items) bytes.now) }
+    ensures place { OnErr result (place.new ≡ place.old) }
+    ensures cells { OnErr result (cells.new.items ≡ cells.old.items) }
+{
+    let had = cells.len();
+    let mut end = *place;
+    match read_records(alloc, &mut Counted::new(bytes), &mut end, schema, cells) {
+        Ok(()) => {
+            *place = end;
+            Ok(())
+        }
+        Err(fault) => {
+            cells.truncate(had);
+            Err(fault)
+        }
+    }
+}
