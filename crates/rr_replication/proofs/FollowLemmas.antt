@@ -210,11 +210,15 @@ module _ (s : Layout) (begin : Cursor) (files : List (List Raw)) (fits : AllFit 
       let whole = whole_record done between.0 between.1 others r (sym parts ∙ between.2)
       (omega (arith, between.3, h.long, h.some, at)) in
       let r_fits : Fits r = (later_fit done (r ∷ others) (subst AllFit parts fits)).0 in
+      let first = records_text begin.digest done in
+      let second = records_text (chain begin.digest done) (r ∷ others) in
+      let apart : concat bytes ≡ first ++ second =
+      text ∙ ap (records_text begin.digest) parts ∙ texts_go_on begin.digest done (r ∷ others) in
+      let off : length first ≡ from - begin.offset = omega (arith, length_of_text begin.digest done, at) in
+      let behind : drop (from - begin.offset) (first ++ second) ≡ second =
+      dropped first second (from - begin.offset) off in
       let left : drop (from - begin.offset) (concat bytes) ≡ records_text x.place.digest (r ∷ others) =
-      ap (drop (from - begin.offset)) (text ∙ ap (records_text begin.digest) parts
-      ∙ texts_go_on begin.digest done (r ∷ others))
-      ∙ dropped (records_text begin.digest done) (records_text (chain begin.digest done) (r ∷ others))
-      (from - begin.offset) (omega (arith, length_of_text begin.digest done, at))
+      ap (drop (from - begin.offset)) apart ∙ behind
       ∙ ap (λ (d : List ℕ). records_text d (r ∷ others)) (sym digest) in
       record {
         len = h.len;

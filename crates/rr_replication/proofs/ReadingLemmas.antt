@@ -1,9 +1,11 @@
 -- The records of a part, one after the other.
-use Rattle.std.proofs.Common.{◌≡◌, ℕ, ◌^◌, ◌<◌, Bool, true, false, List, [], ◌∷◌, ◌++◌, Option, None, Some, IfSome, Result, Ok, Err, ◌⊎◌, inl, inr, refl, sym, ap, ap₂, subst, ◌∙◌, append_assoc, append-nil}
+use Rattle.std.proofs.Common.{◌≡◌, ℕ, ◌^◌, ◌<◌, Bool, true, false, List, [], ◌∷◌, ◌++◌, All, Option, None, Some, IfSome, Result, Ok, Err, ◌⊎◌, inl, inr, refl, sym, ap, ap₂, subst, ◌∙◌, append_assoc, append-nil}
+use Rattle.std.proofs.lemmas.List.Elements.{All-append, All-from_recursion}
 use Rattle.rr_text.specs.Results.{◌>>=◌, Gives, GivesUnless}
 use Rattle.rr_schema.specs.Schema.{Layout}
 use Rattle.rr_cells.specs.declared.cell.Cell.{Cell}
-use Rattle.rr_cells.specs.CellBounds.{NamedCell}
+use Rattle.rr_cells.specs.CellBounds.{IsCellOf, NamedCell}
+use Rattle.rr_cells.specs.Listing.{owned_cell}
 use Rattle.rr_journal.specs.declared.cursor.Cursor.{Cursor}
 use Rattle.rr_journal.specs.declared.fault.JournalFault.{JournalFault}
 use Rattle.rr_journal.specs.declared.step.Stop.{Stop}
@@ -17,16 +19,28 @@ use Rattle.rr_recovery.specs.Replaying.{ReadsAll}
 use Rattle.rr_recovery.proofs.ReplayLemmas.{GoesOn, IsAt, ReadsNone, ReadsOne, SoFar, all_read}
 use Rattle.rr_replication.specs.declared.fault.PartFault.{PartFault}
 use Rattle.rr_replication.specs.declared.fault.PartFault.TheVariants.{Memory}
+use Rattle.rr_replication.proofs.RecordLemmas.{cells_append}
 use Rattle.rr_replication.specs.Reading.{Keeps, PeerState, after_part, as_bad, ends_part, is_empty, record_cells, with_records}
 
 -- ---- cells that were there
 
-pub keeps_all : (cells : List Cell) → Keeps cells cells
-keeps_all cells = ([], sym (append-nil cells))
+pub keeps_all : (s : Layout) (cells : List Cell) → Keeps s cells cells
+keeps_all s cells =
+    record { more = []; kept = sym (append-nil cells); of_schema = tt }
 
-pub keeps_then : (old now new : List Cell) → Keeps old now → Keeps now new → Keeps old new
-keeps_then old now new a b =
-    (a.0 ++ b.0, b.1 ∙ ap (λ (cells : List Cell). cells ++ b.0) a.1 ∙ append_assoc old a.0 b.0)
+pub keeps_then : (s : Layout) (old now new : List Cell) → Keeps s old now → Keeps s now new → Keeps s old new
+keeps_then s old now new a b = record {
+  more = a.more ++ b.more;
+  kept = b.kept ∙ ap (λ (cells : List Cell). cells ++ b.more) a.kept ∙ append_assoc old a.more b.more;
+  of_schema = cells_append s a.more b.more a.of_schema b.of_schema;
+}
+
+pub all_of_schema : (s : Layout) (old new : List Cell) → Keeps s old new → All (λ c. IsCellOf s (owned_cell c)) old
+    → All (λ c. IsCellOf s (owned_cell c)) new
+all_of_schema s old new h before =
+    let more = All-from_recursion (λ c. IsCellOf s (owned_cell c)) h.more h.of_schema in
+    subst (λ (cells : List Cell). All (λ c. IsCellOf s (owned_cell c)) cells) (sym h.kept)
+    (All-append (λ c. IsCellOf s (owned_cell c)) old h.more before more)
 
 -- ---- cells and those of records
 

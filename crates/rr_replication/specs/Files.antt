@@ -1,4 +1,4 @@
--- The bytes of a journal, over its files, and the parts of them that are given.
+-- The bytes of a journal's files, and the parts of them that are given.
 use Rattle.std.specs.Prelude.{◌≡◌, ℕ, zero, suc, ◌+◌, ◌-◌, ◌<◌, ◌≤◌, ◌==◌, List, [], ◌∷◌, ◌++◌, length, drop, take, if◌then◌else◌}
 use Rattle.std.specs.List.{AllByRecursion, Contains, concat}
 use Rattle.rr_replication.specs.declared.part.Part.{Part}
@@ -8,7 +8,7 @@ use Rattle.rr_replication.specs.Part.{part_from}
 
 -- ---- any part
 
--- bytes from an offset on, in the file that has them: one at least, and none behind the end, nor where another file begins
+-- so many bytes from an offset on: at least one, none behind the end, and none behind where another file begins
 pub record AreWithin (files : List ℕ) (end from file skip len : ℕ) : Type 0 where
   pub begins : Contains files file
   pub skipped : file + skip ≡ from
@@ -22,7 +22,7 @@ PartsAreWithin =
     (files : List ℕ) (end from file skip len : ℕ) → part_from files end from ≡ Bytes file skip len
     → AreWithin files end from file skip len
 
--- ---- of a journal whose first file begins at an offset, and which has these bytes of records in its files
+-- ---- over a journal whose files have these bytes of records, and whose first file begins at an offset
 
 -- where its files begin: each where the one before it ends
 abbrev pub offsets : ℕ → List (List ℕ) → List ℕ
@@ -35,7 +35,7 @@ file_at begin [] offset = []
 file_at begin (bytes ∷ files) offset =
     if offset == begin then bytes else file_at (begin + length bytes) files offset
 
--- each file but the last has some
+-- each file but the last has bytes
 abbrev pub HaveBytes : List (List ℕ) → Type 0
 HaveBytes [] = Unit {0}
 HaveBytes (bytes ∷ []) = Unit {0}
@@ -47,14 +47,14 @@ bytes_of begin files (Bytes file skip len) = take len (drop skip (file_at begin 
 bytes_of begin files Nothing = []
 bytes_of begin files Gone = []
 
--- the bytes of so many parts, each of which is asked for from the end of the one before it
+-- the bytes of so many parts, each asked for from the end of the one before it
 abbrev pub given : ℕ → ℕ → List (List ℕ) → ℕ → ℕ → List ℕ
 given zero begin files end from = []
 given (suc n) begin files end from =
     let bytes = bytes_of begin files (part_from (offsets begin files) end from) in
     bytes ++ given n begin files end (from + length bytes)
 
--- they are the journal's bytes from there up to its end, without gap or overlap: each part has one at least
+-- as many parts as there are bytes up to the end, or more, are these bytes, without gap or overlap
 abbrev pub PartsComeToTheEnd : Type 0
 PartsComeToTheEnd =
     (n begin end from : ℕ) (files : List (List ℕ)) → HaveBytes files → begin ≤ from → from ≤ end

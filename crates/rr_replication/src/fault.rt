@@ -11,8 +11,8 @@ use thiserror::Error;
 /// Why a part of a peer's journal is refused.
 #[derive(Clone, Copy, Debug, PartialEq, Eq, Error)]
 pub enum PartFault {
-    /// It doesn't chain to what was read before, or is torn in the middle: no whole record is at its
-    /// beginning, or more bytes are left behind the last one than a record may have.
+    /// It doesn't chain to what was read before, or not within itself: it has bytes, but no whole
+    /// record, or more bytes behind the last one than a record may have.
     Damaged,
     /// A whole record means nothing.
     BadRecord(JournalFault),
@@ -37,8 +37,7 @@ impl PartFault {
     /// What it means.
     fn sentence(&self) -> &'static str {
         match self {
-            PartFault::Damaged =>
-                "the part has no whole record, or more than a cut one behind them",
+            PartFault::Damaged => "the part has bytes that are no records after those before",
             PartFault::BadRecord(_) => "a record of the part is refused",
             PartFault::Memory => "out of memory",
         }

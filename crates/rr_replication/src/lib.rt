@@ -1,22 +1,25 @@
 //! What a node gives of its journal to a peer, and what the peer makes of it.
 //!
-//! Offsets count the bytes of records in a node's endless journal. A node gives the bytes from an
-//! offset on in parts ([`part_from`]): each lies in one file, and ends where that file ends, at the
-//! last synced end, or after 4 MiB. A peer reads the whole records of a part ([`read_part`]): each
-//! has to chain to the one before it, and its cells are handed on. A record that the part's end cuts
-//! is asked for again. There are no sockets and no files here: bytes and numbers come in, and values
-//! go out.
+//! An offset counts the bytes of records in a node's endless journal. A peer asks for the bytes from
+//! an offset on and is given a part of them ([`part_from`]): bytes of one file, up to where that file
+//! or what is synced ends, and at most 4 MiB. It reads the part's whole records ([`read_part`]): each
+//! has to chain to the one before it, and its cells are added to a list, to be joined. Where the
+//! part's end cuts a record, the peer asks again from that record on. Bytes and numbers come in, and
+//! values go out; there are no sockets here, and no files.
 //!
 //! ```text
 //! files, end, from ── part_from ──> Bytes { file, skip, len } | Nothing | Gone
-//!                                     │
-//!                                     └ bytes ── read_part ──> cells, and the place behind them
-//!                                         └─ read_record ─> record ── decode, Decoder ─> cells
+//!                                     └── bytes ──┐
+//!                   ┌─────────────────────────────┘
+//! place, cells ── read_part ──> the place behind the last whole record, and its cells behind the others
+//!                   └── read_record ─> record ── decode ─> groups ── Decoder ─> cell
 //! ```
 //!
 //! In `specs/` both are functions of their arguments (`Part.antt`, `Reading.antt`). [`laws`] says that
-//! the parts that are asked for one after the other are the journal's bytes up to its end, without gap
-//! or overlap, and that who reads them has the cells of all their records.
+//! parts asked for one after the other are the journal's bytes up to its end, without gap or overlap
+//! (`Files.antt`); that a peer that asks again and again is refused none of them, and has the cells of
+//! all records in the end; and that a map these are joined to holds all that the records say
+//! (`Laws.antt`).
 #![tactic(auto)]
 
 mod fault;

@@ -7,7 +7,7 @@ pub const MAX_PART: u64 = 4_194_304;
 
 const _: () = prove!(MAX_PART == 4_194_304);
 
-/// The bytes that a journal has from an offset on, as far as they are given at once.
+/// What is given of a journal from an offset on.
 #[derive(Clone, Copy, Debug, PartialEq, Eq)]
 pub enum Part {
     /// Bytes of records in one of the journal's files.
@@ -19,14 +19,13 @@ pub enum Part {
         /// How many they are: one at least, and at most [`MAX_PART`].
         len: u64,
     },
-    /// The journal ends there.
+    /// No bytes yet: the journal ends there.
     Nothing,
-    /// The journal doesn't have them: they are no longer in a file, or it doesn't come so far.
+    /// No such bytes: they are in no file any more, or the journal doesn't reach so far.
     Gone,
 }
 
-/// The later one of a file's beginning, if there is one, and of another's that is not above an
-/// offset.
+/// The later of two files' beginnings, of which the second counts only if it isn't above `from`.
 fn later(begin: Option<u64>, file: u64, from: u64) -> Option<u64>
     ensures { result ≡ later begin file from }
 {
@@ -39,8 +38,8 @@ fn later(begin: Option<u64>, file: u64, from: u64) -> Option<u64>
     }
 }
 
-/// Where the file begins that has the bytes from an offset on: at the greatest of these offsets that
-/// is not above it.
+/// Where the file begins that has the bytes from an offset on: the greatest of these beginnings that
+/// isn't above it.
 fn begins_at(files: &[u64], from: u64) -> Option<u64>
     ensures begin { result ≡ begins_at files.now from }
     ensures within { IfSome result (λ begin. begin ≤ from) }
@@ -52,14 +51,14 @@ fn begins_at(files: &[u64], from: u64) -> Option<u64>
     begin
 }
 
-/// The sooner one of an end and of a file's beginning, if that is above an offset.
+/// The sooner of an end and a file's beginning, which counts only if it is above `from`.
 fn sooner(end: u64, file: u64, from: u64) -> u64
     ensures { result ≡ sooner end file from }
 {
     if from < file { end.min(file) } else { end }
 }
 
-/// Where that file ends: at the least of these offsets that is above, or where the journal ends.
+/// Where that file ends: at the least of these beginnings that is above the offset, or at the end.
 fn ends_at(files: &[u64], end: u64, from: u64) -> u64
     requires { from < end }
     ensures end { result ≡ ends_at files.now end from }
@@ -72,13 +71,13 @@ fn ends_at(files: &[u64], end: u64, from: u64) -> u64
     until
 }
 
-/// Which bytes are given to who asks for those from the offset `from` on, where the journal's files
-/// begin at `files`, in any order, and its last synced end is `end`.
+/// Which bytes of a journal are given from the offset `from` on, if its files begin at the offsets
+/// `files`, in any order, and are synced up to the offset `end`.
 ///
-/// They are in the file that begins last at or before `from`, and end where the next file begins, at
-/// `end`, or after [`MAX_PART`] bytes, whichever is first. `Gone` where no file begins at or before
-/// `from`, or `from` is behind `end`; else `Nothing` where `from` is `end`. The cost is linear in the
-/// files.
+/// They are in the last file that begins at or before `from`, and reach to the next file's beginning,
+/// to `end`, or over [`MAX_PART`] bytes, whichever is least. `Gone` comes where no file begins at or
+/// before `from`, or `from` is above `end`; else `Nothing` where `from` is `end`. No memory is taken.
+/// The cost is linear in the files.
 pub fn part_from(files: &[u64], end: u64, from: u64) -> Part
     ensures { result ≡ part_from files.now end from }
 {

@@ -1,5 +1,7 @@
 //! What a peer makes of a part.
-ghost use Rattle.std.specs.Prelude.{◌≡◌, ◌<◌, ◌^◌, IfErr, IfSome, OnErr};
+ghost use Rattle.std.specs.Prelude.{◌≡◌, ◌<◌, ◌^◌, All, IfErr, IfSome, OnErr, OnOk};
+ghost use Rattle.rr_cells.specs.CellBounds.{IsCellOf};
+ghost use Rattle.rr_cells.specs.Listing.{owned_cell};
 ghost use Rattle.rr_io.specs.Counted.{inner_of};
 ghost use Rattle.rr_journal.specs.Stream.{MovesBy, StepsTo};
 ghost use Rattle.rr_replication.specs.Reading.{Keeps, ends_part, peer_state, after_part};
@@ -36,8 +38,8 @@ fn step_from<R: Read>(
     }
 }
 
-/// Refuses what is left behind the last whole record, unless a record may be cut there; and a part
-/// of no whole record, unless it has no bytes.
+/// Refuses what is left behind the last whole record, unless it may be a record that the part's end
+/// cuts, and not the part's first.
 fn check_end(stop: Stop, is_first: bool) -> Result<(), PartFault>
     ensures { Gives (λ x. x) result (ends_part stop is_first) }
 {
@@ -49,7 +51,7 @@ fn check_end(stop: Stop, is_first: bool) -> Result<(), PartFault>
 }
 
 /// Adds the cells of the records at a place behind others, and moves the place behind the last of
-/// them.
+/// these records.
 fn read_records<R: Read>(
     alloc: Global,
     input: &mut Counted<R>,
@@ -60,7 +62,7 @@ fn read_records<R: Read>(
     ensures read { IfSome (R.remaining (inner_of input.old)) (λ bytes.
         GivesUnless PartFault.Memory (λ _. peer_state place.new cells.new.items) result
         (after_part schema.now (peer_state place.old cells.old.items) bytes)) }
-    ensures kept { Keeps cells.old.items cells.new.items }
+    ensures kept { Keeps schema.now cells.old.items cells.new.items }
 {
     let mut is_first = true;
     for _ in 0..u64::MAX {
@@ -77,17 +79,17 @@ fn read_records<R: Read>(
 }
 
 /// Reads the whole records at the beginning of a part that was given from `place` on, and adds their
-/// cells behind `cells`, in order; `place` is then behind the last of these records. Origins,
-/// cursors and ends of checkpoints give no cells.
+/// cells behind `cells`, in order. `place` is then behind the last of these records. Records of
+/// origins, cursors and ends give no cells.
 ///
-/// What is left behind the last whole record is let go, since the part's end may cut one: it is to
-/// be asked for again, from `place` on. A part of no bytes changes nothing.
+/// A record that the part's end cuts is left out: it is to be asked for again, from `place` on. A
+/// part of no bytes changes nothing. Each cell that is added is one of the schema.
 ///
-/// Of the records in order the first that means nothing is refused as `BadRecord`. `Damaged` comes
-/// where each whole record means something, and no record is whole though there are bytes, or more
-/// than [`MAX_RECORD_LEN`](rr_journal::MAX_RECORD_LEN) of them are left. `Memory` comes where memory
-/// runs out. After a refusal `place` and `cells` are as they were. The cost is linear in the bytes
-/// and the cells; cells of one group share their key.
+/// The first record that means nothing is refused as `BadRecord`. If there is none, `Damaged` comes
+/// where the part has bytes but no whole record, or more than
+/// [`MAX_RECORD_LEN`](rr_journal::MAX_RECORD_LEN) bytes are left behind the last one. `Memory` comes
+/// where memory runs out. After a refusal `place` and `cells` are as they were. One record is unpacked
+/// at a time, and cells of one group share their key. The cost is linear in the bytes and the cells.
 pub fn read_part(
     alloc: Global,
     bytes: &[u8],
@@ -97,6 +99,8 @@ pub fn read_part(
 ) -> Result<(), PartFault>
     ensures read { GivesUnless PartFault.Memory (λ _. peer_state place.new cells.new.items) result
         (after_part schema.now (peer_state place.old cells.old.items) bytes.now) }
+    ensures of_schema { OnOk result (All (λ c. IsCellOf schema.now (owned_cell c)) cells.old.items
+        → All (λ c. IsCellOf schema.now (owned_cell c)) cells.new.items) }
     ensures place { OnErr result (place.new ≡ place.old) }
     ensures cells { OnErr result (cells.new.items ≡ cells.old.items) }
 {

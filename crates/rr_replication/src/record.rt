@@ -5,7 +5,8 @@ ghost use Rattle.rr_cells.specs.Listing.{owned_cell};
 ghost use Rattle.rr_journal.specs.Body.{meaning_of, packed_cells, record_meaning};
 ghost use Rattle.rr_journal.specs.Text.{raw_of};
 ghost use Rattle.rr_recovery.specs.Joining.{group_cells, named_by};
-ghost use Rattle.rr_replication.specs.Reading.{Adds, IsReadable, as_bad, record_cells};
+ghost use Rattle.rr_recovery.specs.Taking.{IsCheckedGroup};
+ghost use Rattle.rr_replication.specs.Reading.{Adds, as_bad, record_cells};
 ghost use Rattle.rr_text.specs.Results.{GivesUnless};
 
 use crate::fault::PartFault;
@@ -31,26 +32,29 @@ fn cell_of(group: &Group, cell: &(i64, Entry)) -> Result<Cell, AllocError>
 }
 
 /// Adds the cells of a group behind others.
-fn push_group(group: &Group, cells: &mut Vec<Cell>) -> Result<(), PartFault>
-    requires { IsReadable (packed_cells group.now) }
-    ensures { Adds cells.old.items cells.new.items (Ok (group_cells (packed_cells group.now)))
-        result }
+fn push_group(group: &Group, schema: &Schema, cells: &mut Vec<Cell>) -> Result<(), PartFault>
+    requires { IsCheckedGroup schema.now (packed_cells group.now) }
+    ensures { Adds schema.now cells.old.items cells.new.items
+        (Ok (group_cells (packed_cells group.now))) result }
 {
     let mut packed = Decoder::new(&group.packed)?;
-    while let Some(cell) = packed.next()? {
-        cells.push(cell_of(group, &cell)?)?;
+    while let Some(entry) = packed.next()? {
+        let cell = cell_of(group, &entry)?;
+        // The proof needs that this is a cell of the schema.
+        let _is_of = cell.is_of(schema);
+        cells.push(cell)?;
     }
     Ok(())
 }
 
 /// Adds the cells of groups behind others, in order.
-fn push_groups(groups: &[Group], cells: &mut Vec<Cell>) -> Result<(), PartFault>
-    requires { AllByRecursion IsReadable (map packed_cells groups.now) }
-    ensures { Adds cells.old.items cells.new.items
+fn push_groups(groups: &[Group], schema: &Schema, cells: &mut Vec<Cell>) -> Result<(), PartFault>
+    requires { AllByRecursion (IsCheckedGroup schema.now) (map packed_cells groups.now) }
+    ensures { Adds schema.now cells.old.items cells.new.items
         (Ok (flat_map group_cells (map packed_cells groups.now))) result }
 {
     for group in groups {
-        push_group(group, cells)?;
+        push_group(group, schema, cells)?;
     }
     Ok(())
 }
@@ -67,19 +71,19 @@ fn meaning_of(alloc: Global, raw: &RawRecord, schema: &Schema) -> Result<Record,
     }
 }
 
-/// Adds the cells of a record behind others, in order, if it means something; an origin, a cursor
-/// and an end give none.
+/// Adds the cells of a record behind others, in order, or refuses one that means nothing. An origin,
+/// a cursor and an end have none.
 pub(crate) fn push_record(
     alloc: Global,
     raw: &RawRecord,
     schema: &Schema,
     cells: &mut Vec<Cell>,
 ) -> Result<(), PartFault>
-    ensures { Adds cells.old.items cells.new.items (record_cells schema.now (raw_of raw.now))
-        result }
+    ensures { Adds schema.now cells.old.items cells.new.items
+        (record_cells schema.now (raw_of raw.now)) result }
 {
     match meaning_of(alloc, raw, schema)? {
-        Record::Cells(groups) => push_groups(&groups, cells),
+        Record::Cells(groups) => push_groups(&groups, schema, cells),
         Record::Origin(_) | Record::Cursor(_) | Record::End(_) => Ok(()),
     }
 }

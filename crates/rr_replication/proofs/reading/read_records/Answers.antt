@@ -63,6 +63,12 @@ loop-preserved g c =
       read = one_more c.args.place.now c.loop.place c.step_from.new.place r old_bytes left new_left
           (ReadsTheSame s had now c.loop.is_first) (ReadsTheSame s had new false) c.loop.invariant.read step moved
           (reads_on s had now new (map owned_cell added.more) c.loop.is_first r added.exact is);
-      kept = keeps_then c.args.cells.now.items c.loop.cells.items c.push_record.new.cells.items c.loop.invariant.kept
-          (added.more, added.kept);
+      kept = keeps_then s c.args.cells.now.items c.loop.cells.items c.push_record.new.cells.items c.loop.invariant.kept
+          (record { more = added.more; kept = added.kept; of_schema = added.of_schema });
     }
+
+pub returns-in_err-push_record-in-Whole-clause-kept : goal.returns-in_err-push_record-in-Whole-clause-kept
+returns-in_err-push_record-in-Whole-clause-kept g c =
+    let added = c.in_err-push_record-in-Whole.ensures in
+    keeps_then c.args.schema.now c.args.cells.now.items c.loop.cells.items c.push_record.new.cells.items
+    c.loop.invariant.kept (record { more = added.more; kept = added.kept; of_schema = added.of_schema })

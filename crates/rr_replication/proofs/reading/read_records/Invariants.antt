@@ -12,5 +12,5 @@ invariant-loop g l = record {
   read : SoFar l.initial.place l.place (g.R.Read.remaining (inner_of l.initial.input))
       (g.R.Read.remaining (inner_of l.input))
       (ReadsTheSame l.schema (map owned_cell l.initial.cells.items) (map owned_cell l.cells.items) l.is_first);
-  kept : Keeps l.initial.cells.items l.cells.items;
+  kept : Keeps l.schema l.initial.cells.items l.cells.items;
 }

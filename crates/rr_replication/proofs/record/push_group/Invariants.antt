@@ -5,9 +5,9 @@ use Rattle.rr_replication.proofs.RecordLemmas.{IsLeft}
 use Rattle.rr_replication.proofs.record.push_group.Given as goal
 
 -- the cells that were added and those that are left are all
-abbrev pub invariant-loop-cell : goal.invariant-loop-cell
-invariant-loop-cell l = IsLeft l.group.key l.group.archive l.packed.cells l.initial.cells.items l.cells.items
-    (group_cells (packed_cells l.group))
+abbrev pub invariant-loop-entry : goal.invariant-loop-entry
+invariant-loop-entry l = IsLeft l.schema l.group.key l.group.archive l.packed.cells l.initial.cells.items
+    l.cells.items (group_cells (packed_cells l.group))
 
-abbrev pub decreases-loop-cell : goal.decreases-loop-cell
-decreases-loop-cell l = length (cells_read l.packed.cells)
+abbrev pub decreases-loop-entry : goal.decreases-loop-entry
+decreases-loop-entry l = length (cells_read l.packed.cells)

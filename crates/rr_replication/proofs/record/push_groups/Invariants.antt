@@ -7,5 +7,5 @@ use Rattle.rr_replication.proofs.record.push_groups.Given as goal
 
 -- the cells that were added and those of the groups that are left are all
 abbrev pub invariant-loop-group : goal.invariant-loop-group
-invariant-loop-group l = AreLeft (map packed_cells (drop l.group-index l.groups)) l.initial.cells.items l.cells.items
-    (flat_map group_cells (map packed_cells l.groups))
+invariant-loop-group l = AreLeft l.schema (map packed_cells (drop l.group-index l.groups)) l.initial.cells.items
+    l.cells.items (flat_map group_cells (map packed_cells l.groups))

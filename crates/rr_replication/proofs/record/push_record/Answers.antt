@@ -4,9 +4,9 @@ use Rattle.rr_journal.specs.declared.group.Group.{Group}
 use Rattle.rr_journal.specs.declared.meaning.Record.{Record}
 use Rattle.rr_journal.specs.Body.{HasCells, meaning_of, packed_cells, record_meaning}
 use Rattle.rr_journal.specs.Text.{raw_of}
+use Rattle.rr_recovery.specs.Taking.{IsCheckedGroup}
 use Rattle.rr_recovery.proofs.MeaningLemmas.{cells_checked}
-use Rattle.rr_replication.specs.Reading.{IsReadable}
-use Rattle.rr_replication.proofs.RecordLemmas.{are_readable, as_bad_ok}
+use Rattle.rr_replication.proofs.RecordLemmas.{as_bad_ok}
 use Rattle.rr_replication.proofs.record.push_record.Goals as goal
 
 pub push_groups-requires : goal.push_groups-requires
@@ -16,5 +16,5 @@ push_groups-requires c =
     let groups = c.in-Cells.groups.items in
     let read : record_meaning s r ≡ Ok (HasCells (map packed_cells groups)) =
     as_bad_ok _ _ (c.in_ok-groups.ensures ∙ ap (λ (m : Record). Ok (meaning_of m)) c.in-Cells.is) in
-    subst (λ (l : List Group). AllByRecursion IsReadable (map packed_cells l)) (sym c.deref.ensures.value)
-    (are_readable s (map packed_cells groups) (cells_checked s r (map packed_cells groups) read))
+    subst (λ (l : List Group). AllByRecursion (IsCheckedGroup s) (map packed_cells l)) (sym c.deref.ensures.value)
+    (cells_checked s r (map packed_cells groups) read)
