@@ -24,7 +24,7 @@ use Rattle.rr_replication.specs.Files.{HaveBytes, bytes_of, offsets}
 use Rattle.rr_replication.specs.Laws.{HaveRecords, PeersCatchUp, all_records, follow, texts}
 use Rattle.rr_replication.specs.Part.{ends_at, part_from}
 use Rattle.rr_replication.specs.Reading.{PeerState, after_part, as_bad, ends_part, is_empty, with_records}
-use Rattle.rr_replication.proofs.GivenLemmas.{is_part, no_bytes}
+use Rattle.rr_replication.proofs.GivenLemmas.{IsPart, is_part, no_bytes}
 use Rattle.rr_replication.proofs.TextLemmas.{behind_append, dropped, later_fit, len_append, length_of_text, parts_are_taken, within_first}
 
 -- ---- files end between records
@@ -188,20 +188,15 @@ module _ (s : Layout) (begin : Cursor) (files : List (List Raw)) (fits : AllFit 
     is : bytes_of begin.offset bytes (part_from starts end x.place.offset)
         ≡ take len (records_text x.place.digest (r ∷ others))
 
-  next : (x : PeerState) (done others : List Raw) (r : Raw) → all ≡ done ++ r ∷ others → x.place ≡ behind_all begin done
+  abbrev given_at : PeerState → List ℕ
+  given_at x = bytes_of begin.offset bytes (part_from starts end x.place.offset)
+
+  holds_first : (x : PeerState) (done others : List Raw) (r : Raw) → all ≡ done ++ r ∷ others
+      → x.place.digest ≡ chain begin.digest done → x.place.offset ≡ begin.offset + records_len done
+      → IsPart begin.offset end x.place.offset (ends_at starts end x.place.offset) (concat bytes) (given_at x)
       → Next x r others
-  next x done others r parts place =
+  holds_first x done others r parts digest at h =
       let from = x.place.offset in
-      let digest : x.place.digest ≡ chain begin.digest done = ap (λ (c : Cursor). c.digest) place in
-      let len : records_len all ≡ records_len done + records_len (r ∷ others) =
-      ap records_len parts ∙ len_append done (r ∷ others) in
-      let at : from ≡ begin.offset + records_len done =
-      ap (λ (c : Cursor). c.offset) place ∙ omega (arith, len, short) in
-      let text = concat_texts begin.digest files in
-      let long : length (concat bytes) ≡ records_len all = ap length text ∙ length_of_text begin.digest all in
-      let h = is_part begin.offset end from bytes (have_bytes begin.digest files have) (omega (arith, at))
-      (omega (arith, at, len)) (omega (arith, long)) in
-      let until = ends_at starts end from in
       let none_off : begin.offset + 0 ≡ begin.offset = omega arith in
       let between = ends_between begin.offset end from all starts
       (subst (λ (n : ℕ). AllByRecursion (IsBetween begin.offset all) (offsets n bytes)) none_off
@@ -213,18 +208,31 @@ module _ (s : Layout) (begin : Cursor) (files : List (List Raw)) (fits : AllFit 
       let first = records_text begin.digest done in
       let second = records_text (chain begin.digest done) (r ∷ others) in
       let apart : concat bytes ≡ first ++ second =
-      text ∙ ap (records_text begin.digest) parts ∙ texts_go_on begin.digest done (r ∷ others) in
+      concat_texts begin.digest files ∙ ap (records_text begin.digest) parts
+      ∙ texts_go_on begin.digest done (r ∷ others) in
       let off : length first ≡ from - begin.offset = omega (arith, length_of_text begin.digest done, at) in
-      let behind : drop (from - begin.offset) (first ++ second) ≡ second =
-      dropped first second (from - begin.offset) off in
       let left : drop (from - begin.offset) (concat bytes) ≡ records_text x.place.digest (r ∷ others) =
-      ap (drop (from - begin.offset)) apart ∙ behind
+      ap (drop (from - begin.offset)) apart ∙ dropped first second (from - begin.offset) off
       ∙ ap (λ (d : List ℕ). records_text d (r ∷ others)) (sym digest) in
       record {
         len = h.len;
         holds = omega (arith, h.long, whole, between.3, at, r_fits);
         is = h.is ∙ ap (take h.len) left;
       }
+
+  next : (x : PeerState) (done others : List Raw) (r : Raw) → all ≡ done ++ r ∷ others → x.place ≡ behind_all begin done
+      → Next x r others
+  next x done others r parts place =
+      let digest : x.place.digest ≡ chain begin.digest done = ap (λ (c : Cursor). c.digest) place in
+      let len : records_len all ≡ records_len done + records_len (r ∷ others) =
+      ap records_len parts ∙ len_append done (r ∷ others) in
+      let at : x.place.offset ≡ begin.offset + records_len done =
+      ap (λ (c : Cursor). c.offset) place ∙ omega (arith, len, short) in
+      let long : length (concat bytes) ≡ records_len all =
+      ap length (concat_texts begin.digest files) ∙ length_of_text begin.digest all in
+      holds_first x done others r parts digest at
+      (is_part begin.offset end x.place.offset bytes (have_bytes begin.digest files have) (omega (arith, at))
+      (omega (arith, at, len)) (omega (arith, long)))
 
   catch_up : (n : ℕ) (x : PeerState) (done others : List Raw) (ms : List Meaning) → length others ≤ n
       → all ≡ done ++ others → x.place ≡ behind_all begin done → meanings_of s others ≡ Ok ms

@@ -24,10 +24,6 @@ use Rattle.rr_replication.specs.Reading.{Keeps, PeerState, after_part, as_bad, e
 
 -- ---- cells that were there
 
-pub keeps_all : (s : Layout) (cells : List Cell) → Keeps s cells cells
-keeps_all s cells =
-    record { more = []; kept = sym (append-nil cells); of_schema = tt }
-
 pub keeps_then : (s : Layout) (old now new : List Cell) → Keeps s old now → Keeps s now new → Keeps s old new
 keeps_then s old now new a b = record {
   more = a.more ++ b.more;
@@ -73,9 +69,6 @@ pub record ReadsTheSame (s : Layout) (had now : List NamedCell) (first : Bool) (
   pub cells : with_cells s now left ≡ with_cells s had all
   pub not_yet : NotYet first left all
 
-pub reads_all : (s : Layout) (had : List NamedCell) (rs : List Raw) → ReadsTheSame s had had true rs rs
-reads_all s had rs = record { cells = refl; not_yet = refl }
-
 some_read : (first : Bool) (r : Raw) (rs all : List Raw) → NotYet first (r ∷ rs) all → is_empty all ≡ false
 some_read true r rs all h = sym (ap (λ (l : List Raw). is_empty l) h)
 some_read false r rs all h = h
@@ -105,10 +98,10 @@ meanings_there s had now rs e = by_read (as_bad (meanings_of s rs)) refl e
     by_read (Ok ms) is e = let same : had ++ cells_of_all ms ≡ now = cc e in (ms, is, sym same)
     by_read (Err fault) is e = absurd (cc e)
 
-ended : (x y : PeerState) (end : Result (Unit {0}) PartFault) (r : Result (Unit {0}) PartFault) (answer : Result PeerState PartFault)
+ended : (y : PeerState) (end : Result (Unit {0}) PartFault) (r : Result (Unit {0}) PartFault) (answer : Result PeerState PartFault)
     → Gives (λ t. t) r end → answer ≡ (end >>= λ t. Ok y) → GivesUnless Memory (λ t. y) r answer
-ended x y end (Ok t) answer h is = is ∙ ap (λ (e : Result (Unit {0}) PartFault). e >>= λ t. Ok y) h
-ended x y end (Err fault) answer h is = inr (is ∙ ap (λ (e : Result (Unit {0}) PartFault). e >>= λ t. Ok y) h)
+ended y end (Ok t) answer h is = is ∙ ap (λ (e : Result (Unit {0}) PartFault). e >>= λ t. Ok y) h
+ended y end (Err fault) answer h is = inr (is ∙ ap (λ (e : Result (Unit {0}) PartFault). e >>= λ t. Ok y) h)
 
 part_read : (s : Layout) (x : PeerState) (place : Cursor) (now : List NamedCell) (first : Bool) (bytes : List ℕ) (stop : Stop)
     (r : Result (Unit {0}) PartFault) → ReadsTheSame s x.cells now first [] (records_of x.place.digest bytes).0
@@ -125,7 +118,7 @@ part_read s x place now first bytes stop r h read end =
     >>= λ t. Ok (with_records x rs ms)) there.1
     ∙ ap (λ (z : PeerState). ends_part (stop_of x.place.digest bytes) (is_empty rs) >>= λ t. Ok z) same
     ∙ ap₂ (λ (t : Stop) (b : Bool). ends_part t b >>= λ u. Ok y) (sym read.stop) (sym (first_is first rs h.not_yet)) in
-    ended x y (ends_part stop first) r (after_part s x bytes) end is
+    ended y (ends_part stop first) r (after_part s x bytes) end is
 
 pub is_read : (s : Layout) (x : PeerState) (at next : Cursor) (now : List NamedCell) (first : Bool)
     (old left : Option (List ℕ)) (stop : Stop) (r : Result (Unit {0}) PartFault)

@@ -1,9 +1,9 @@
 -- The cells of records that are added one after the other.
-use Rattle.std.proofs.Common.{◌≡◌, ℕ, Bool, true, false, List, [], ◌∷◌, ◌++◌, length, map, drop, ◌+◌, ◌<◌, ◌≤◌, get_or, Option, None, Some, IsTrue, ap₂, Result, Ok, Err, IsOk, ◌⊎◌, inl, inr, refl, sym, ap, subst, ◌∙◌, append_assoc, append-nil}
+use Rattle.std.proofs.Common.{◌≡◌, ℕ, Bool, true, false, List, [], ◌∷◌, ◌++◌, length, map, drop, ◌+◌, ◌<◌, get_or, Option, None, Some, IsTrue, ap₂, Result, Ok, Err, IsOk, ◌⊎◌, inl, inr, refl, sym, ap, subst, ◌∙◌, append_assoc, append-nil}
 use Rattle.std.specs.Prelude.{◌==◌, ◌&&◌, ◌↔◌, not}
 use Rattle.std.specs.List.{flat_map, AllByRecursion}
 use Rattle.std.proofs.lemmas.Bool.{lt-ltb}
-use Rattle.std.proofs.lemmas.List.{drop_more, drop_all, map-append}
+use Rattle.std.proofs.lemmas.List.{drop_more, map-append}
 use Rattle.rr_text.specs.Results.{◌>>=◌, GivesUnless, unless}
 use Rattle.rr_schema.specs.Schema.{Layout}
 use Rattle.rr_cells.specs.declared.cell.Cell.{Cell}
@@ -149,9 +149,6 @@ pub record AreLeft (s : Layout) (left : List PackedCells) (old now : List Cell) 
 pub in_turn : (gs : List Group) (i : ℕ) (g : Group) → i < length gs → get_or gs i g ≡ g
     → map packed_cells (drop i gs) ≡ packed_cells g ∷ map packed_cells (drop (i + 1) gs)
 in_turn gs i g lt is = ap (map packed_cells) (drop_more gs i g lt ∙ ap (λ (h : Group). h ∷ drop (i + 1) gs) is)
-
-pub after_all : (gs : List Group) (i : ℕ) → length gs ≤ i → map packed_cells (drop i gs) ≡ []
-after_all gs i le = ap (map packed_cells) (drop_all i gs le)
 
 pub groups_left : (s : Layout) (g : PackedCells) (gs : List PackedCells) (old now new : List Cell) (all : List NamedCell)
     (result : Result (Unit {0}) PartFault) → AreLeft s (g ∷ gs) old now all
