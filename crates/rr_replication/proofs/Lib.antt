@@ -1,6 +1,6 @@
 pub mod PartLemmas
-pub mod RecordLemmas
+pub mod GivenLemmas
+pub mod CellLemmas
 pub mod ReadingLemmas
 pub mod TextLemmas
-pub mod GivenLemmas
 pub mod FollowLemmas

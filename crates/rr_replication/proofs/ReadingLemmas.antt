@@ -19,7 +19,7 @@ use Rattle.rr_recovery.specs.Replaying.{ReadsAll}
 use Rattle.rr_recovery.proofs.ReplayLemmas.{GoesOn, IsAt, ReadsNone, ReadsOne, SoFar, all_read}
 use Rattle.rr_replication.specs.declared.fault.PartFault.{PartFault}
 use Rattle.rr_replication.specs.declared.fault.PartFault.TheVariants.{Memory}
-use Rattle.rr_replication.proofs.RecordLemmas.{cells_append}
+use Rattle.rr_replication.proofs.CellLemmas.{cells_append}
 use Rattle.rr_replication.specs.Reading.{Keeps, PeerState, after_part, as_bad, ends_part, is_empty, record_cells, with_records}
 
 -- ---- cells that were there

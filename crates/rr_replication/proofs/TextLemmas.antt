@@ -23,7 +23,7 @@ use Rattle.rr_recovery.proofs.ReplayLemmas.{behind_none}
 use Rattle.rr_replication.specs.declared.fault.PartFault.{PartFault}
 use Rattle.rr_replication.specs.Reading.{PeerState, after_part, as_bad, ends_part, is_empty, records_in, with_records}
 use Rattle.rr_replication.specs.Laws.{HasRead, HasReadSome, PartsAreTaken, PartsBringTheRecords, after_parts}
-use Rattle.rr_replication.proofs.RecordLemmas.{as_bad_ok}
+use Rattle.rr_replication.proofs.CellLemmas.{as_bad_ok}
 
 -- ---- a part that has the first record
 

@@ -8,7 +8,8 @@ use Rattle.rr_replication.specs.Part.{part_from}
 
 -- ---- any part
 
--- so many bytes from an offset on: at least one, none behind the end, and none behind where another file begins
+-- so many bytes from an offset on, in a file: at least one, none behind the end, and none behind where the next file
+-- begins
 pub record AreWithin (files : List ℕ) (end from file skip len : ℕ) : Type 0 where
   pub begins : Contains files file
   pub skipped : file + skip ≡ from
@@ -22,7 +23,7 @@ PartsAreWithin =
     (files : List ℕ) (end from file skip len : ℕ) → part_from files end from ≡ Bytes file skip len
     → AreWithin files end from file skip len
 
--- ---- over a journal whose files have these bytes of records, and whose first file begins at an offset
+-- ---- over a journal whose files have these bytes of records, the first file from an offset on
 
 -- where its files begin: each where the one before it ends
 abbrev pub offsets : ℕ → List (List ℕ) → List ℕ
@@ -54,7 +55,7 @@ given (suc n) begin files end from =
     let bytes = bytes_of begin files (part_from (offsets begin files) end from) in
     bytes ++ given n begin files end (from + length bytes)
 
--- as many parts as there are bytes up to the end, or more, are these bytes, without gap or overlap
+-- if they are no fewer than the bytes from there up to the end, they are these bytes, without gap or overlap
 abbrev pub PartsComeToTheEnd : Type 0
 PartsComeToTheEnd =
     (n begin end from : ℕ) (files : List (List ℕ)) → HaveBytes files → begin ≤ from → from ≤ end

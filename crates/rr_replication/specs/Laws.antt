@@ -80,8 +80,8 @@ follow (suc n) s begin files end x =
     after_part s x (bytes_of begin files (part_from (offsets begin files) end x.place.offset))
     >>= λ y. follow n s begin files end y
 
--- a peer that is behind some of a node's records is refused none of the parts that the node gives it, if the others mean
--- something; once it has asked as often as there are others, it is behind them, and has their cells
+-- a peer that is behind some of a node's records is refused none of the parts that the node gives it, if the others
+-- mean something; once it has asked as often as there are others, it is behind them, and has their cells
 abbrev pub PeersCatchUp : Type 0
 PeersCatchUp =
     (s : Layout) (begin : Cursor) (files : List (List Raw)) (done others : List Raw) (x : PeerState) (ms : List Meaning)

@@ -34,13 +34,13 @@ record_cells s r = as_bad (record_meaning s r) >>= λ m. Ok (cells_of_record m)
 abbrev pub AreCellsOf : Layout → List Cell → Type 0
 AreCellsOf s cells = AllByRecursion (λ c. IsCellOf s (owned_cell c)) cells
 
--- behind the cells that were there others are, which are of a schema
+-- behind the cells that were there come others, which are of a schema
 pub record Keeps (s : Layout) (old new : List Cell) : Type 0 where
   pub more : List Cell
   pub kept : new ≡ old ++ more
   pub of_schema : AreCellsOf s more
 
--- those are the answer's, unless memory ran out or it is refused
+-- these are the answer's, unless memory ran out or it is refused
 pub record Adds {X : Type 0} (s : Layout) (old new : List Cell) (answer : Result (List NamedCell) PartFault)
     (result : Result X PartFault) : Type 0 where
   pub more : List Cell

@@ -38,8 +38,8 @@ fn later(begin: Option<u64>, file: u64, from: u64) -> Option<u64>
     }
 }
 
-/// Where the file begins that has the bytes from an offset on: the greatest of these beginnings that
-/// isn't above it.
+/// Where the file begins that has the bytes from an offset on: the greatest of these beginnings
+/// that isn't above it.
 fn begins_at(files: &[u64], from: u64) -> Option<u64>
     ensures begin { result ≡ begins_at files.now from }
     ensures within { IfSome result (λ begin. begin ≤ from) }
@@ -74,10 +74,10 @@ fn ends_at(files: &[u64], end: u64, from: u64) -> u64
 /// Which bytes of a journal are given from the offset `from` on, if its files begin at the offsets
 /// `files`, in any order, and are synced up to the offset `end`.
 ///
-/// They are in the last file that begins at or before `from`, and reach to the next file's beginning,
-/// to `end`, or over [`MAX_PART`] bytes, whichever is least. `Gone` comes where no file begins at or
-/// before `from`, or `from` is above `end`; else `Nothing` where `from` is `end`. No memory is taken.
-/// The cost is linear in the files.
+/// They are in the last file that begins at or before `from`, and reach to the next file's
+/// beginning, to `end`, or over [`MAX_PART`] bytes, whichever is least. `Gone` comes where no file
+/// begins at or before `from`, or `from` is above `end`; else `Nothing` where `from` is `end`. No
+/// memory is taken. The cost is linear in the files.
 pub fn part_from(files: &[u64], end: u64, from: u64) -> Part
     ensures { result ≡ part_from files.now end from }
 {

@@ -7,8 +7,8 @@ ghost use Rattle.rr_journal.specs.Stream.{MovesBy, StepsTo};
 ghost use Rattle.rr_replication.specs.Reading.{Keeps, ends_part, peer_state, after_part};
 ghost use Rattle.rr_text.specs.Results.{Gives, GivesUnless};
 
+use crate::cells::push_record;
 use crate::fault::PartFault;
-use crate::record::push_record;
 use rr_cells::Cell;
 use rr_io::Counted;
 use rr_journal::{Cursor, Step, Stop, read_record};
@@ -16,7 +16,7 @@ use rr_schema::Schema;
 use std::alloc::Global;
 use std::io::Read;
 
-/// Reads the record at a place, and moves the place behind it. The input is one that never fails.
+/// Reads the record at a place of an input that never fails, and moves the place behind it.
 fn step_from<R: Read>(
     alloc: Global,
     input: &mut Counted<R>,
@@ -78,18 +78,19 @@ fn read_records<R: Read>(
     Err(PartFault::Memory)
 }
 
-/// Reads the whole records at the beginning of a part that was given from `place` on, and adds their
-/// cells behind `cells`, in order. `place` is then behind the last of these records. Records of
-/// origins, cursors and ends give no cells.
+/// Reads the whole records at the beginning of a part that was given from `place` on, and adds
+/// their cells behind `cells`, in order. `place` is then behind the last of these records. Records
+/// of origins, cursors and ends give no cells.
 ///
 /// A record that the part's end cuts is left out: it is to be asked for again, from `place` on. A
 /// part of no bytes changes nothing. Each cell that is added is one of the schema.
 ///
 /// The first record that means nothing is refused as `BadRecord`. If there is none, `Damaged` comes
 /// where the part has bytes but no whole record, or more than
-/// [`MAX_RECORD_LEN`](rr_journal::MAX_RECORD_LEN) bytes are left behind the last one. `Memory` comes
-/// where memory runs out. After a refusal `place` and `cells` are as they were. One record is unpacked
-/// at a time, and cells of one group share their key. The cost is linear in the bytes and the cells.
+/// [`MAX_RECORD_LEN`](rr_journal::MAX_RECORD_LEN) bytes are left behind the last one. `Memory`
+/// comes where memory runs out. After a refusal `place` and `cells` are as they were. One record is
+/// in memory at a time besides the cells, of which those of a group share their key; at the end 1 MiB
+/// is taken and given back. The cost is linear in the bytes and the cells.
 pub fn read_part(
     alloc: Global,
     bytes: &[u8],

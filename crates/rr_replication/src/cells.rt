@@ -1,4 +1,4 @@
-//! The cells of a record.
+//! The cells of records.
 ghost use Rattle.std.specs.Prelude.{◌≡◌, IfOk, Ok, map};
 ghost use Rattle.std.specs.List.{flat_map, AllByRecursion};
 ghost use Rattle.rr_cells.specs.Listing.{owned_cell};
@@ -71,8 +71,8 @@ fn meaning_of(alloc: Global, raw: &RawRecord, schema: &Schema) -> Result<Record,
     }
 }
 
-/// Adds the cells of a record behind others, in order, or refuses one that means nothing. An origin,
-/// a cursor and an end have none.
+/// Adds the cells of a record behind others, in order, or refuses one that means nothing. An
+/// origin, a cursor and an end have none.
 pub(crate) fn push_record(
     alloc: Global,
     raw: &RawRecord,

@@ -3,8 +3,8 @@ use Rattle.std.proofs.lemmas.Result.{err_from_is_err_and}
 use Rattle.std.specs.List.{flat_map}
 use Rattle.rr_journal.specs.Body.{PackedCells, packed_cells}
 use Rattle.rr_recovery.specs.Joining.{group_cells}
-use Rattle.rr_replication.proofs.RecordLemmas.{AreLeft, groups_left, groups_refused, in_turn}
-use Rattle.rr_replication.proofs.record.push_groups.Goals as goal
+use Rattle.rr_replication.proofs.CellLemmas.{AreLeft, groups_left, groups_refused, in_turn}
+use Rattle.rr_replication.proofs.cells.push_groups.Goals as goal
 
 pub returns-in_err-push_group : goal.returns-in_err-push_group
 returns-in_err-push_group c =

@@ -6,8 +6,8 @@ use Rattle.rr_journal.specs.Body.{HasCells, meaning_of, packed_cells, record_mea
 use Rattle.rr_journal.specs.Text.{raw_of}
 use Rattle.rr_recovery.specs.Taking.{IsCheckedGroup}
 use Rattle.rr_recovery.proofs.MeaningLemmas.{cells_checked}
-use Rattle.rr_replication.proofs.RecordLemmas.{as_bad_ok}
-use Rattle.rr_replication.proofs.record.push_record.Goals as goal
+use Rattle.rr_replication.proofs.CellLemmas.{as_bad_ok}
+use Rattle.rr_replication.proofs.cells.push_record.Goals as goal
 
 pub push_groups-requires : goal.push_groups-requires
 push_groups-requires c =

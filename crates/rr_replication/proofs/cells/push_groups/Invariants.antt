@@ -2,8 +2,8 @@ use Rattle.std.proofs.Common.{drop, map}
 use Rattle.std.specs.List.{flat_map}
 use Rattle.rr_journal.specs.Body.{packed_cells}
 use Rattle.rr_recovery.specs.Joining.{group_cells}
-use Rattle.rr_replication.proofs.RecordLemmas.{AreLeft}
-use Rattle.rr_replication.proofs.record.push_groups.Given as goal
+use Rattle.rr_replication.proofs.CellLemmas.{AreLeft}
+use Rattle.rr_replication.proofs.cells.push_groups.Given as goal
 
 -- the cells that were added and those of the groups that are left are all
 abbrev pub invariant-loop-group : goal.invariant-loop-group

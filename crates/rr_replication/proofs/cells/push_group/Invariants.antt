@@ -1,8 +1,8 @@
 use Rattle.std.proofs.Common.{length}
 use Rattle.rr_journal.specs.Body.{packed_cells}
 use Rattle.rr_recovery.specs.Joining.{cells_read, group_cells}
-use Rattle.rr_replication.proofs.RecordLemmas.{IsLeft}
-use Rattle.rr_replication.proofs.record.push_group.Given as goal
+use Rattle.rr_replication.proofs.CellLemmas.{IsLeft}
+use Rattle.rr_replication.proofs.cells.push_group.Given as goal
 
 -- the cells that were added and those that are left are all
 abbrev pub invariant-loop-entry : goal.invariant-loop-entry

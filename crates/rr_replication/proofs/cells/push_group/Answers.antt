@@ -6,8 +6,8 @@ use Rattle.rr_codec.specs.Reading.{cells_left, packed_at}
 use Rattle.rr_journal.specs.Body.{packed_cells}
 use Rattle.rr_recovery.specs.Joining.{group_cells}
 use Rattle.rr_recovery.proofs.TakingLemmas.{is_opened}
-use Rattle.rr_replication.proofs.RecordLemmas.{all_left, others_left}
-use Rattle.rr_replication.proofs.record.push_group.Goals as goal
+use Rattle.rr_replication.proofs.CellLemmas.{all_left, others_left}
+use Rattle.rr_replication.proofs.cells.push_group.Goals as goal
 
 pub returns-in_err-packed : goal.returns-in_err-packed
 returns-in_err-packed c =
