@@ -28,6 +28,7 @@ mod pulls;
 mod records;
 mod recovery;
 mod replicas;
+mod replication;
 mod reports;
 mod rings;
 mod rounds;

@@ -1,0 +1,5 @@
+pub mod Fault
+pub mod Part
+pub mod Reading
+pub mod Files
+pub mod Laws

@@ -1,0 +1,28 @@
+//! The laws of parts, with no work to do: the functions have empty bodies.
+ghost use Rattle.rr_replication.specs.Files.{PartsAreWithin, PartsComeToTheEnd};
+ghost use Rattle.rr_replication.specs.Laws.{PartsAreTaken, PartsBringTheRecords, PeersCatchUp, WhatIsJoinedIsHeld};
+
+/// A part with a whole record is taken, if each of its whole records means something. Whoever reads
+/// parts one after the other has the cells of all records up to its place, wherever the parts end.
+pub fn parts_bring_the_records()
+    ensures taken { PartsAreTaken }
+    ensures brought { PartsBringTheRecords }
+{}
+
+/// A part has at least one byte, and lies in one file. Parts asked for one after the other are the
+/// journal's bytes up to its end, without gap or overlap.
+pub fn parts_come_to_the_end()
+    ensures within { PartsAreWithin }
+    ensures end { PartsComeToTheEnd }
+{}
+
+/// A peer that asks a node again and again is refused no part, and has the cells of all its records
+/// in the end.
+pub fn peers_catch_up()
+    ensures { PeersCatchUp }
+{}
+
+/// A map that the cells of records are joined to holds all that these records say.
+pub fn what_is_joined_is_held()
+    ensures { WhatIsJoinedIsHeld }
+{}

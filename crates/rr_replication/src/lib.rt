@@ -1,0 +1,33 @@
+//! What a node gives of its journal to a peer, and what the peer makes of it.
+//!
+//! An offset counts the bytes of records in a node's endless journal. A peer asks for the bytes
+//! from an offset on and is given a part of them ([`part_from`]): bytes of one file, up to where
+//! that file or what is synced ends, and at most 4 MiB. It reads the part's whole records
+//! ([`read_part`]): each has to chain to the one before it, and its cells are added to a list, to
+//! be joined. Where the part's end cuts a record, the peer asks again from that record on. Bytes
+//! and numbers come in, and values go out; there are no sockets here, and no files.
+//!
+//! ```text
+//! files, end, from ── part_from ──> Bytes { file, skip, len } | Nothing | Gone
+//!                                     └── bytes ──┐
+//!                   ┌─────────────────────────────┘
+//! place, cells ── read_part ──> the place behind the last whole record, and more cells
+//!                   └── read_record ─> record ── decode ─> groups ── Decoder ─> cell
+//! ```
+//!
+//! In `specs/` both are functions of their arguments (`Part.antt`, `Reading.antt`). [`laws`] says
+//! that parts asked for one after the other are the journal's bytes up to its end, without gap or
+//! overlap (`Files.antt`); that a peer that asks again and again is refused none of them, and has
+//! the cells of all records in the end; and that a map these are joined to holds all that the
+//! records say (`Laws.antt`).
+#![tactic(auto)]
+
+mod cells;
+mod fault;
+pub mod laws;
+mod part;
+mod reading;
+
+pub use fault::PartFault;
+pub use part::{MAX_PART, Part, part_from};
+pub use reading::read_part;

@@ -1,0 +1,120 @@
+//! What a peer makes of a part.
+ghost use Rattle.std.specs.Prelude.{◌≡◌, ◌<◌, ◌^◌, All, IfErr, IfSome, OnErr, OnOk};
+ghost use Rattle.rr_cells.specs.CellBounds.{IsCellOf};
+ghost use Rattle.rr_cells.specs.Listing.{owned_cell};
+ghost use Rattle.rr_io.specs.Counted.{inner_of};
+ghost use Rattle.rr_journal.specs.Stream.{MovesBy, StepsTo};
+ghost use Rattle.rr_replication.specs.Reading.{Keeps, ends_part, peer_state, after_part};
+ghost use Rattle.rr_text.specs.Results.{Gives, GivesUnless};
+
+use crate::cells::push_record;
+use crate::fault::PartFault;
+use rr_cells::Cell;
+use rr_io::Counted;
+use rr_journal::{Cursor, Step, Stop, read_record};
+use rr_schema::Schema;
+use std::alloc::Global;
+use std::io::Read;
+
+/// Reads the record at a place of an input that never fails, and moves the place behind it.
+fn step_from<R: Read>(
+    alloc: Global,
+    input: &mut Counted<R>,
+    place: &mut Cursor,
+) -> Result<Step, PartFault>
+    ensures read { StepsTo place.old.digest (R.remaining (inner_of input.old))
+        (R.remaining (inner_of input.new)) result }
+    ensures moves { MovesBy place.old place.new result }
+    ensures fits { place.new.offset < 2 ^ 64 }
+    ensures faults { IfErr result (λ fault. fault ≡ PartFault.Memory) }
+{
+    let step = read_record(alloc, input, place);
+    // The proof needs that the offset is one of 64 bits.
+    let _offset = place.offset;
+    match step {
+        Ok(step) => Ok(step),
+        // The reading of a slice doesn't fail, so memory ran out.
+        Err(_) => Err(PartFault::Memory),
+    }
+}
+
+/// Refuses what is left behind the last whole record, unless it may be a record that the part's end
+/// cuts, and not the part's first.
+fn check_end(stop: Stop, is_first: bool) -> Result<(), PartFault>
+    ensures { Gives (λ x. x) result (ends_part stop is_first) }
+{
+    match stop {
+        Stop::End => Ok(()),
+        Stop::Torn if !is_first => Ok(()),
+        Stop::Torn | Stop::Damaged(_) => Err(PartFault::Damaged),
+    }
+}
+
+/// Adds the cells of the records at a place behind others, and moves the place behind the last of
+/// these records.
+fn read_records<R: Read>(
+    alloc: Global,
+    input: &mut Counted<R>,
+    place: &mut Cursor,
+    schema: &Schema,
+    cells: &mut Vec<Cell>,
+) -> Result<(), PartFault>
+    ensures read { IfSome (R.remaining (inner_of input.old)) (λ bytes.
+        GivesUnless PartFault.Memory (λ _. peer_state place.new cells.new.items) result
+        (after_part schema.now (peer_state place.old cells.old.items) bytes)) }
+    ensures kept { Keeps schema.now cells.old.items cells.new.items }
+{
+    let mut is_first = true;
+    for _ in 0..u64::MAX {
+        match step_from(alloc, input, place)? {
+            Step::Whole(raw) => {
+                push_record(alloc, &raw, schema, cells)?;
+                is_first = false;
+            }
+            Step::Stopped(stop) => return check_end(stop, is_first),
+        }
+    }
+    // No slice has so many records.
+    Err(PartFault::Memory)
+}
+
+/// Reads the whole records at the beginning of a part that was given from `place` on, and adds
+/// their cells behind `cells`, in order. `place` is then behind the last of these records. Records
+/// of origins, cursors and ends give no cells.
+///
+/// A record that the part's end cuts is left out: it is to be asked for again, from `place` on. A
+/// part of no bytes changes nothing. Each cell that is added is one of the schema.
+///
+/// The first record that means nothing is refused as `BadRecord`. If there is none, `Damaged` comes
+/// where the part has bytes but no whole record, or more than
+/// [`MAX_RECORD_LEN`](rr_journal::MAX_RECORD_LEN) bytes are left behind the last one. `Memory`
+/// comes where memory runs out. After a refusal `place` and `cells` are as they were. One record is
+/// in memory at a time besides the cells, of which those of a group share their key; at the end 1 MiB
+/// is taken and given back. The cost is linear in the bytes and the cells.
+pub fn read_part(
+    alloc: Global,
+    bytes: &[u8],
+    place: &mut Cursor,
+    schema: &Schema,
+    cells: &mut Vec<Cell>,
+) -> Result<(), PartFault>
+    ensures read { GivesUnless PartFault.Memory (λ _. peer_state place.new cells.new.items) result
+        (after_part schema.now (peer_state place.old cells.old.items) bytes.now) }
+    ensures of_schema { OnOk result (All (λ c. IsCellOf schema.now (owned_cell c)) cells.old.items
+        → All (λ c. IsCellOf schema.now (owned_cell c)) cells.new.items) }
+    ensures place { OnErr result (place.new ≡ place.old) }
+    ensures cells { OnErr result (cells.new.items ≡ cells.old.items) }
+{
+    let had = cells.len();
+    let mut end = *place;
+    match read_records(alloc, &mut Counted::new(bytes), &mut end, schema, cells) {
+        Ok(()) => {
+            *place = end;
+            Ok(())
+        }
+        Err(fault) => {
+            cells.truncate(had);
+            Err(fault)
+        }
+    }
+}
