@@ -168,7 +168,7 @@ def main():
             look(node, browser, sys.argv[2] if len(sys.argv) == 3 else None)
         finally:
             browser.close()
-            node.close()
+            node.kill()
 
 
 main()
