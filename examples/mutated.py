@@ -113,7 +113,7 @@ def are_answers(text, may_lack_bodies):
     head, end, rest = text.partition(b"\r\n\r\n")
     line, *fields = head.split(b"\r\n")
     words = line.split(b" ", 2)
-    if not end or words[0] != b"HTTP/1.1" or int(words[1]) not in STATUSES:
+    if not end or words[0] not in (b"HTTP/1.0", b"HTTP/1.1") or int(words[1]) not in STATUSES:
         return False
     lengths = [int(field[15:]) for field in fields if field.startswith(b"content-length:")]
     length = sum(lengths)
