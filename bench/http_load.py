@@ -31,13 +31,14 @@ import sys
 import tempfile
 import time
 
-from node_http import await_start, connected, free_ports, lines_of, post
+from node_http import await_start, connected, free_ports, lines_of, post, work_of
 
 CONFIG = """\
 step = 60
 http = "127.0.0.1:{0}"
 lines = "127.0.0.1:{1}"
 origins = [1, 1000]
+lead = 300_000_000_000
 quiet = true
 
 [[archive]]
@@ -52,7 +53,8 @@ DESCRIPTORS = 10_000
 
 FETCH = "/fetch?cf=AVERAGE&resolution=60&start=0&end=6000&key=load,from=0+n"
 
-# Each thread of wrk writes to series of its own, row by row.
+# Each thread of wrk writes to 64 series of its own in turns, more than it has requests out: so the rows of each come in
+# order.
 SCRIPT = """\
 local threads = 0
 function setup(thread)
@@ -61,12 +63,12 @@ function setup(thread)
 end
 local sent = 0
 function request()
+    local series, first = sent % 64, math.floor(sent / 64) * {lines}
     local lines = {{}}
-    for place = 1, {lines} do
-        local series, row = math.floor(sent / 100000), sent % 100000
-        lines[place] = string.format("load,from=%d,part=%d n=%di %d000000000\\n", number, series, row, row * 60)
-        sent = sent + 1
+    for row = first, first + {lines} - 1 do
+        lines[#lines + 1] = string.format("load,from=%d,part=%d n=%di %d000000000\\n", number, series, row, row * 60)
     end
+    sent = sent + 1
     return wrk.format("POST", "/write", nil, table.concat(lines))
 end
 """
@@ -88,6 +90,7 @@ ASKED = {
     "/health": ("GET", "/health", None),
     "a fetch of 100 rows": ("GET", FETCH, None),
     "a write of a line": ("POST", "/write", b"good v=1i 0\n"),
+    "a write of 10,000 lines": ("POST", "/write", b"".join(lines_of(1, request) for request in range(10))),
 }
 
 
@@ -136,7 +139,7 @@ def wrk(url, connections, seconds, *words):
     words = ["wrk", f"-t{threads}", f"-c{connections}", f"-d{seconds}s", "--latency", *words, url]
     said = subprocess.run(words, capture_output=True, text=True, check=True).stdout
     rate = float(re.search(r"Requests/sec:\s+([\d.]+)", said).group(1))
-    waits = [f"{part} % within {wait}" for part, wait in re.findall(r"(50|99)%\s+(\S+)", said)]
+    waits = [f"{part} % within {wait}" for part, wait in re.findall(r"(?m)^\s*(50|99)%\s+(\S+)", said)]
     faults = re.findall(r"(?:Socket errors|Non-2xx).*", said)
     return rate, "; ".join([", ".join(waits), *faults])
 
@@ -154,9 +157,11 @@ def writes(program, seconds):
         with node(program) as it, tempfile.NamedTemporaryFile("w", suffix=".lua") as script:
             script.write(SCRIPT.format(lines=lines))
             script.flush()
+            before = work_of(it.process)
             rate, rest = wrk(f"http://127.0.0.1:{it.http}/write", connections, seconds, "-s", script.name)
-            what = f"{connections} connections, {lines:,} lines a request"
-            print(f"{what}: {rate * lines:,.0f} lines a second, {rest}; {it.memory()[1]:,.0f} MB at most", flush=True)
+            each = (work_of(it.process) - before) / (rate * lines * seconds) * 1e6
+            what = f"{connections} connections, {lines:,} lines a request: {rate * lines:,.0f} lines a second"
+            print(f"{what}, {each:.2f} us of processor time each, {rest}; {it.memory()[1]:,.0f} MB at most", flush=True)
 
 
 async def hold_once(port, begin, more, opened):
