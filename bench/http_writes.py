@@ -3,8 +3,9 @@
 
 usage: http_writes.py [PROGRAM] [--series SERIES]
 
-The node holds one sample of each of SERIES series (1 and 100,000 if left out), and then takes a sample a minute of the
-first one for four seconds. So the figures say what a write costs more where the node holds more.
+The node of `rr node` holds one sample of each of SERIES series (1 and 100,000 if left out), and then takes a sample a
+minute of the first one for four seconds. So the figures say what a write costs more where the node holds more. Each is
+synced before it is answered, so the rate is that of the disk of TMPDIR.
 """
 
 import argparse
@@ -23,9 +24,9 @@ SECONDS = 4
 
 CONFIG = """\
 step = 60
-lines = "127.0.0.1:{lines}"
 http = "127.0.0.1:{http}"
-fetch = ["127.0.0.1:{fetch}"]
+lines = "127.0.0.1:{lines}"
+origins = [1, 1000]
 precision = "s"
 quiet = true
 lead = 300_000_000_000
@@ -61,10 +62,10 @@ def processor_seconds(process):
 def measured(program, series):
     """The writes a second of a node that holds this many series, and the node's processor time of each."""
     with tempfile.TemporaryDirectory() as folder:
-        ports = {name: free_port() for name in ("lines", "http", "fetch")}
+        ports = {name: free_port() for name in ("lines", "http")}
         config = pathlib.Path(folder, "node.toml")
         config.write_text(CONFIG.format(**ports))
-        node = subprocess.Popen([program, "serve", config, "--origin", "1"])
+        node = subprocess.Popen([program, "node", config, "--data", pathlib.Path(folder, "data")])
         try:
             send(ports["lines"], "".join(f"meter,unit=u{i} kwh=1i {START}\n" for i in range(series)).encode())
             before = processor_seconds(node)

@@ -1,17 +1,19 @@
 #!/usr/bin/env python3
 """Samples a second into a node over HTTP, from 16 senders at once, beside 4 readers, and into other servers.
 
-    bench/node_http.py PROGRAM [--requests N] [--every SECONDS]
+    bench/node_http.py PROGRAM [--requests N]
 
 PROGRAM is the built program, crates/rr_tool/out/rr_tool. Each of 16 senders posts N requests, 20 if not given, of 1,000
-lines each, a connection for each, and posts again what was answered 503, while 4 readers fetch 100 rows again and again.
-Then as many lines are sent over one raw connection, and the same requests to VictoriaMetrics and InfluxDB, if they are
-installed. Without --every a node pulls and saves after each body; here nothing is saved. Prints samples a second, the
-server's processor time for each, with that of the fetches, and how many answers were 503. Run it on an idle machine.
+lines each, over a connection that stays, and posts again what was answered 503: to a node that does nothing else, and to
+one from which 4 readers fetch 100 rows again and again. Then as many lines are sent over one line connection, and the same
+requests to VictoriaMetrics and InfluxDB, if they are installed. A node of `rr node` syncs what it takes to its journal, in
+the folder of TMPDIR, before it answers; VictoriaMetrics does not. Prints samples a second, the server's processor time for
+each, with that of the fetches, and how many answers were 503. Run it on an idle machine.
 """
 
 import argparse
 import concurrent.futures
+import contextlib
 import http.client
 import os
 import pathlib
@@ -27,12 +29,11 @@ from peers import InfluxDb, VictoriaMetrics, Work
 SENDERS, READERS, LINES = 16, 4, 1000
 CONFIG = """\
 step = 60
-lines = "127.0.0.1:{0}"
-fetch = [{1}]
-http = "127.0.0.1:{2}"
+http = "127.0.0.1:{0}"
+lines = "127.0.0.1:{1}"
+origins = [1, 1000]
 lead = 300_000_000_000
 quiet = true
-{every}
 
 [[archive]]
 steps = 1
@@ -55,21 +56,38 @@ def lines_of(sender, request):
     return "".join(f"load,from={sender} n={i}i {(start + i) * 60}000000000\n" for i in range(LINES)).encode()
 
 
-def post(port, body, path="/write"):
+def connected(port):
+    """A connection that stays, which is opened at its first request."""
+    return contextlib.closing(http.client.HTTPConnection("127.0.0.1", port, timeout=60))
+
+
+def post(connection, path, body):
     """How many answers were 503 before one was 204."""
     for tries in range(1000):
-        connection = http.client.HTTPConnection("127.0.0.1", port, timeout=60)
         connection.request("POST", path, body)
-        status = connection.getresponse().status
-        connection.close()
-        if status == 204:
+        answer = connection.getresponse()
+        answer.read()
+        if answer.status == 204:
             return tries
-        if status != 503:
-            raise SystemExit(f"node_http.py: {status}")
+        if answer.status != 503:
+            raise SystemExit(f"node_http.py: {answer.status}")
+        time.sleep(0.01)
     raise SystemExit("node_http.py: the node is behind for too long")
 
 
-def send_raw(port, bodies):
+def send(port, path, bodies):
+    """The same for a sender's bodies."""
+    with connected(port) as connection:
+        return sum(post(connection, path, body) for body in bodies)
+
+
+def send_all(port, bodies, path="/write"):
+    """The same for all senders, each beside the others."""
+    with concurrent.futures.ThreadPoolExecutor(SENDERS) as pool:
+        return sum(pool.map(lambda own: send(port, path, own), bodies))
+
+
+def send_lines(port, bodies):
     with socket.create_connection(("127.0.0.1", port)) as stream:
         for body in bodies:
             stream.sendall(body)
@@ -92,25 +110,18 @@ def measured(process, what, samples, run):
     return result
 
 
-def send_all(port, bodies, path="/write"):
-    """How many answers were 503."""
-    with concurrent.futures.ThreadPoolExecutor(SENDERS) as pool:
-        return sum(pool.map(lambda own: sum(post(port, body, path) for body in own), bodies))
-
-
 def fetch_until(port, ended, counts):
     """Fetches 100 rows again and again, and counts the fetches."""
-    with socket.create_connection(("127.0.0.1", port)) as stream, stream.makefile("rwb") as lines:
+    with connected(port) as connection:
         while not ended.is_set():
-            lines.write(b"fetch AVERAGE 60 0 6000 load,from=0 n\n")
-            lines.flush()
-            counts.append(sum(1 for _ in iter(lines.readline, b"\n")))
+            connection.request("GET", "/fetch?cf=AVERAGE&resolution=60&start=0&end=6000&key=load,from=0+n")
+            counts.append(connection.getresponse().read())
 
 
-def beside_readers(ports, run):
+def beside_readers(port, run):
     """What a run gives while readers fetch, and how many fetches they made."""
     ended, counts = threading.Event(), []
-    readers = [threading.Thread(target=fetch_until, args=(port, ended, counts)) for port in ports]
+    readers = [threading.Thread(target=fetch_until, args=(port, ended, counts)) for _ in range(READERS)]
     for reader in readers:
         reader.start()
     result = run()
@@ -118,6 +129,32 @@ def beside_readers(ports, run):
     for reader in readers:
         reader.join()
     return result, len(counts)
+
+
+def await_start(port):
+    for _ in range(200):
+        try:
+            socket.create_connection(("127.0.0.1", port)).close()
+            return
+        except ConnectionRefusedError:
+            time.sleep(0.05)
+    raise SystemExit("node_http.py: the node doesn't listen")
+
+
+@contextlib.contextmanager
+def node(program):
+    """A node with nothing in it: its process, and its ports of HTTP and of lines."""
+    with tempfile.TemporaryDirectory() as folder:
+        ports = free_ports(2)
+        config = pathlib.Path(folder, "node.toml")
+        config.write_text(CONFIG.format(*ports))
+        process = subprocess.Popen([program, "node", config, "--data", pathlib.Path(folder, "data")])
+        try:
+            await_start(ports[0])
+            yield process, *ports
+        finally:
+            process.kill()
+            process.wait()
 
 
 def peer(kind, path, bodies, samples):
@@ -140,35 +177,22 @@ def main():
     parser = argparse.ArgumentParser()
     parser.add_argument("program")
     parser.add_argument("--requests", type=int, default=20)
-    parser.add_argument("--every", type=int)
     asked = parser.parse_args()
     bodies = [[lines_of(sender, i) for i in range(asked.requests)] for sender in range(SENDERS)]
     samples = SENDERS * asked.requests * LINES
-    with tempfile.TemporaryDirectory() as folder:
-        lines, web, *fetches = free_ports(2 + READERS)
-        config = pathlib.Path(folder, "node.toml")
-        addresses = ", ".join(f'"127.0.0.1:{port}"' for port in fetches)
-        config.write_text(CONFIG.format(lines, addresses, web, every=f"every = {asked.every}" if asked.every else ""))
-        process = subprocess.Popen([asked.program, "serve", str(config), "--origin", "1"])
-        try:
-            for _ in range(200):
-                try:
-                    socket.create_connection(("127.0.0.1", web)).close()
-                    break
-                except ConnectionRefusedError:
-                    time.sleep(0.05)
-            what = f"{SENDERS} senders over HTTP"
-            measured(process, what, samples, lambda: send_all(web, bodies))
-            what = f"the same beside {READERS} readers"
-            behind, count = measured(process, what, samples, lambda: beside_readers(fetches, lambda: send_all(web, bodies)))
-            print(f"fetches meanwhile: {count}; answers that the node is behind: {behind}")
-            flat = [body for own in bodies for body in own]
-            measured(process, "one raw connection", samples, lambda: send_raw(lines, flat))
-        finally:
-            process.kill()
-            process.wait()
+    with node(asked.program) as (process, web, _):
+        behind = measured(process, f"{SENDERS} senders over HTTP", samples, lambda: send_all(web, bodies))
+        print(f"answers that the node is behind: {behind}")
+    with node(asked.program) as (process, web, _):
+        what = f"the same beside {READERS} readers"
+        behind, count = measured(process, what, samples, lambda: beside_readers(web, lambda: send_all(web, bodies)))
+        print(f"fetches meanwhile: {count}; answers that the node is behind: {behind}")
+    with node(asked.program) as (process, _, lines):
+        flat = [body for own in bodies for body in own]
+        measured(process, "one line connection", samples, lambda: send_lines(lines, flat))
     peer(VictoriaMetrics, "/write?precision=ns", bodies, samples)
     peer(InfluxDb, "/write?db=m&precision=ns", bodies, samples)
 
 
-main()
+if __name__ == "__main__":
+    main()

@@ -19,6 +19,7 @@ import subprocess
 import sys
 import tempfile
 import time
+import tomllib
 
 from store import START, TOP
 
@@ -51,6 +52,13 @@ def lines(series, minutes, fields=1):
             value = (one * 7919 + minute * 104_729) % 100_000
             said = ",".join(f"{field}={value}i" for field in FIELDS[fields])
             yield f"{names} {said} {START + minute * 60}000000000\n"
+
+
+def plant_config(keys):
+    """A configuration of `rr serve` with these keys, and with the step and the archives of examples/rr.toml."""
+    text = (TOP / "examples/rr.toml").read_text()
+    archives = text[text.index("\n[[archive]]") :]
+    return f"step = {tomllib.loads(text)['step']}\n{keys}{archives}"
 
 
 def free_port():

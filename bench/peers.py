@@ -1,12 +1,13 @@
 #!/usr/bin/env python3
-"""Times the same samples into `rr serve` and into other servers, and fetches of them.
+"""Times the same samples into `rr serve`, `rr node` and other servers, and fetches of them.
 
 usage: peers.py [--series SERIES] [--minutes MINUTES] [--runs RUNS] [--program PROGRAM]
 
 Each of SERIES meters (1,000 if left out) has a reading in each of MINUTES minutes (1,000 if left out). Each
 server takes all of them minute by minute, over one connection, and then answers 5,000 fetches of 100 rows of
-series at random, one after the other over one connection; the values are compared with what was sent. `librrd`
-is no server: it is called in process. Prints, of the best of RUNS runs (3 if left out), samples and fetches a
+series at random, one after the other over one connection; the values are compared with what was sent. `rr serve`
+is asked over TCP and `rr node` over HTTP, as VictoriaMetrics and InfluxDB are; it and InfluxDB have each request in a
+synced journal before they answer it. `librrd` is no server: it is called in process. Prints, of the best of RUNS runs (3 if left out), samples and fetches a
 second, and the server's processor time for each; and of the last run the peak memory and the bytes on disk. What
 isn't installed is left out.
 """
@@ -154,6 +155,32 @@ class Http(Server):
         if response.status >= 300:
             raise SystemExit(f"{self.name}: {path}: {response.status} {answer[:200]}")
         return answer
+
+
+class RrNode(Http):
+    """`rr node`, whose directory is on the disk that the others have theirs on."""
+
+    name, needs, port = "rr node", None, 17_003
+
+    def __init__(self, folder, work, program):
+        super().__init__(work)
+        config = folder / "node.toml"
+        config.write_text(
+            f'step = 60\nhttp = "127.0.0.1:{self.port}"\norigins = [1, 1000]\n'
+            f"[[archive]]\nsteps = 1\nrows = {work.minutes}\nxff_num = 0\nxff_den = 1\n"
+        )
+        self.words = [program, "node", config, "--data", folder / "data"]
+
+    def take(self):
+        for piece in self.pieces:
+            self.ask("POST", "/write", piece)
+
+    def fetch(self, one):
+        times = f"start={self.work.first}&end={self.work.end}"
+        return self.ask("GET", f"/fetch?cf=AVERAGE&resolution=60&{times}&key={urllib.parse.quote(key(one))}")
+
+    def values(self, answer):
+        return [int(record.rpartition(b",")[2]) for record in answer.splitlines()]
 
 
 class VictoriaMetrics(Http):
@@ -356,7 +383,7 @@ def main():
     print(f"{work.series * work.minutes:,} samples of {work.series:,} series")
     heads = f"{'samples/s':>11} {'ns a sample':>11} {'fetches/s':>10} {'us a fetch':>10}"
     print(f"{'':16} {heads} {'peak MB':>8} {'disk MB':>8}")
-    for kind in [Rr, VictoriaMetrics, InfluxDb, Rrdcached]:
+    for kind in [Rr, RrNode, VictoriaMetrics, InfluxDb, Rrdcached]:
         if kind.needs and not shutil.which(kind.needs):
             print(f"{kind.name} isn't installed")
             continue

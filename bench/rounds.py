@@ -3,17 +3,16 @@
 
 usage: rounds.py [PROGRAM] [--series SERIES] [--between SECONDS] [--times TIMES] [--times-without TIMES]
 
-A node with the archives of examples/rr.toml begins with SERIES series (50 if left out) that have a sample in each step
-of a year, from a snapshot that this script makes. Ten senders send a line for each of their series every SECONDS
-seconds (10 if left out), each over a connection of its own: TIMES times (7) to a node with `every = 60`, which saves
-twice meanwhile, and 2 times to one without `every`, which saves after each connection. Prints the median and the
-greatest wait, from the call to the end of the report. It takes less than two minutes.
+A node of `rr serve` with the archives of examples/rr.toml begins with SERIES series (50 if left out) that have a
+sample in each step of a year, from a snapshot that this script makes. Ten senders send a line for each of their series
+every SECONDS seconds (10 if left out), each over a connection of its own: TIMES times (7) to a node with `every = 60`,
+which saves twice meanwhile, and 2 times to one without `every`, which saves after each connection. Prints the median
+and the greatest wait, from the call to the end of the report. It takes less than two minutes.
 """
 
 import argparse
 import hashlib
 import pathlib
-import re
 import statistics
 import subprocess
 import sys
@@ -22,14 +21,20 @@ import threading
 import time
 import tomllib
 
-from node_lines import connected, free_port, peak, send
+from node_lines import connected, free_port, peak, plant_config, send
 from store import TOP
 
 sys.path.insert(0, str(TOP / "tools"))
 from snapshot import ARCHIVE, COUNT, FIELDS, HEAD, KEY_LEN, MASK_LEN  # noqa: E402
 
 SENDERS = 10
-CONFIG = TOP / "examples/rr.toml"
+CONFIG = """\
+lines = "127.0.0.1:{lines}"
+fetch = ["127.0.0.1:{fetch}"]
+lead = 300_000_000_000
+idle = 60
+{every}
+"""
 VERSION = 2
 SECOND = 1_000_000_000
 VALUE = 21_500
@@ -72,14 +77,10 @@ def snapshot(schema, series, now):
 
 
 def config(every):
-    """The text of examples/rr.toml with free ports, and that port for lines."""
+    """The text of a configuration with free ports, and that port for lines."""
     lines = free_port()
-    text = CONFIG.read_text().replace("127.0.0.1:8094", f"127.0.0.1:{lines}")
-    text = text.replace("127.0.0.1:8095", f"127.0.0.1:{free_port()}").replace("127.0.0.1:8096", f"127.0.0.1:{free_port()}")
-    text, count = re.subn(r"(?m)^every = .*$", f"every = {every}" if every else "", text)
-    if count != 1:
-        sys.exit("examples/rr.toml has no key `every`")
-    return text, lines
+    every = f"every = {every}" if every else ""
+    return plant_config(CONFIG.format(lines=lines, fetch=free_port(), every=every)), lines
 
 
 def report_of(port, series):
@@ -144,7 +145,7 @@ def main():
     words = parser.parse_args()
     with tempfile.TemporaryDirectory() as room:
         folder = pathlib.Path(room)
-        full = snapshot(tomllib.loads(CONFIG.read_text()), words.series, int(time.time()))
+        full = snapshot(tomllib.loads(plant_config("")), words.series, int(time.time()))
         (folder / "full").write_bytes(full)
         print(f"{words.series} series, a snapshot of {len(full):,} bytes", flush=True)
         measure(folder, words.program, 60, words.series, words.between, words.times)

@@ -4,10 +4,11 @@
 usage: year.py [PROGRAM] [--series SERIES] [--kinds KIND ..]
 
 Makes a snapshot of SERIES series (50 if left out) with the archives of examples/rr.toml, all 12,216 rows of each full,
-loads it into a node, fetches a row of the first and of the last series, and prints the seconds of processor time that
-the load took, the memory at most and once it serves, and what that is for each series, less that of a node without any.
-KIND is `meter`, whose value is always the same, `noise`, a temperature that varies, or `octets`, a counter that grows
-unevenly; all three if left out. Ten thousand series take 15 GB of disk for the snapshot, in the folder of TMPDIR.
+loads it into a node of `rr serve`, fetches a row of the first and of the last series, and prints the seconds of
+processor time that the load took, the memory at most and once it serves, and what that is for each series, less that of
+a node without any. KIND is `meter`, whose value is always the same, `noise`, a temperature that varies, or `octets`, a
+counter that grows unevenly; all three if left out. Ten thousand series take 15 GB of disk for the snapshot, in the
+folder of TMPDIR.
 """
 
 import argparse
@@ -21,13 +22,17 @@ import tempfile
 import time
 import tomllib
 
-from node_lines import connected, free_port
+from node_lines import connected, free_port, plant_config
 from store import TOP
 
 sys.path.insert(0, str(TOP / "tools"))
 from snapshot import ARCHIVE, COUNT, FIELDS, HEAD, KEY_LEN, MASK_LEN  # noqa: E402
 
-CONFIG = TOP / "examples/rr.toml"
+CONFIG = """\
+lines = "127.0.0.1:{lines}"
+fetch = ["127.0.0.1:{fetch}"]
+every = 60
+"""
 VERSION = 2
 SECOND = 1_000_000_000
 KINDS = ("meter", "noise", "octets")
@@ -118,10 +123,8 @@ def fetched(port, one, now):
 
 def measure(program, folder, kind, series, now):
     """The MB at most and while it serves, and the seconds that loading took."""
-    text, ports = CONFIG.read_text(), {}
-    for port in ("8094", "8095", "8096"):
-        ports[port] = free_port()
-        text = text.replace(f"127.0.0.1:{port}", f"127.0.0.1:{ports[port]}")
+    fetch = free_port()
+    text = plant_config(CONFIG.format(lines=free_port(), fetch=fetch))
     (folder / "node.toml").write_text(text)
     write_snapshot(folder / "full", kind, series, tomllib.loads(text), now)
     words = [program, "serve", folder / "node.toml", "--origin", "2", "--load", folder / "full"]
@@ -129,7 +132,7 @@ def measure(program, folder, kind, series, now):
     try:
         while True:
             try:
-                socket.create_connection(("127.0.0.1", ports["8095"])).close()
+                socket.create_connection(("127.0.0.1", fetch)).close()
                 break
             except OSError:
                 if node.poll() is not None:
@@ -137,7 +140,7 @@ def measure(program, folder, kind, series, now):
                 time.sleep(0.2)
         ticks = pathlib.Path(f"/proc/{node.pid}/stat").read_text().rsplit(")", 1)[1].split()
         for one in {0, series - 1} if series else ():
-            if not fetched(ports["8095"], one, now):
+            if not fetched(fetch, one, now):
                 sys.exit(f"series {one} isn't answered")
         return memory(node, "VmHWM"), memory(node, "VmRSS"), (int(ticks[11]) + int(ticks[12])) / 100
     finally:

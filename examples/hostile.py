@@ -1,5 +1,5 @@
 #!/usr/bin/env python3
-"""A node among connections that no client should make, and a peer that answers nonsense.
+"""A node of `rr serve` among connections that no client should make, and a peer that answers nonsense.
 
     examples/hostile.py PROGRAM
 
@@ -7,7 +7,7 @@ PROGRAM is the built program, crates/rr_tool/out/rr_tool. A node is started with
 Each thing is done to it over TCP: silence, half a line or frame, a frame of 4 GB, random bytes, an endless
 line, a reset, answers that nobody reads; and it is left no file descriptor. After each the node has to take a
 line and to answer a fetch; while one reader is held, the keeper and the other reader have to go on at once. Ends
-with status 1 where something else comes. What HTTP is sent that is none stands in http_api.py.
+with status 1 where something else comes. http_api.py and mutated.py do so to `rr node`, over HTTP.
 """
 
 import concurrent.futures

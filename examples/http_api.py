@@ -4,38 +4,50 @@
     examples/http_api.py PROGRAM
 
 PROGRAM is the built program, crates/rr_tool/out/rr_tool. Writes in the forms of both versions of InfluxDB and of the clients
-that are common, fetches beside those of the fetch port, keys, counts, the page's texts, each refusal, 16 senders of 1,000
-lines at once, a keeper that is held, and requests that are no requests. After each of these the node has to answer. Then
-nodes whose writes wait for their snapshot, which are killed once they have answered. Ends with status 1 where something else
-comes.
+that are common, fetches, keys, counts, the page's texts, each refusal, requests one after the other and at once on one
+connection, 16 senders of 1,000 lines at once, line connections that are silent, and requests that are no requests. After
+each of these the node has to answer. Then a node that is killed once it has answered and started again from its directory,
+and one whose journal can't grow for a while. Ends with status 1 where something else comes.
 """
 
 import concurrent.futures
 import gzip
 import json
-import pathlib
-import shutil
+import resource
 import socket
 import subprocess
 import sys
 import tempfile
 import time
 
-from http_node import IDLE, Node, check, fail, read_all
+from http_node import IDLE, Node, check, fail, read_all, read_answer
 
 SENDERS, LINES_OF_ONE = 16, 1000
 
+# The rows of the first three minutes.
+MINUTES = "cf=LAST&resolution=60&start=0&end=180"
+
 
 def status_of(answer):
-    return int(answer.split(b" ", 2)[1]) if answer.startswith(b"HTTP/1.1 ") else None
+    return int(answer.split(b" ", 2)[1]) if answer.startswith(b"HTTP/1.") else None
 
 
-def ask_port(port, text):
-    """What a port of lines or of fetches answers."""
-    with socket.create_connection(("127.0.0.1", port), timeout=30) as stream:
+def send_lines(node, text):
+    """What a line connection is answered."""
+    with socket.create_connection(("127.0.0.1", node.lines), timeout=30) as stream:
         stream.sendall(text.encode())
         stream.shutdown(socket.SHUT_WR)
         return read_all(stream).decode()
+
+
+def post(body, *fields):
+    """The bytes of a write, with more fields."""
+    return b"\r\n".join([b"POST /write HTTP/1.1", b"Host: a", *fields, b"Content-Length: %d" % len(body), b"", body])
+
+
+def get(path, *fields):
+    """The bytes of a request that reads, with more fields."""
+    return b"\r\n".join([b"GET %s HTTP/1.1" % path, b"Host: a", *fields, b"", b""])
 
 
 def writes(node):
@@ -49,16 +61,16 @@ def writes(node):
         "error": "partial write: line 2: FloatField; line 3: NoFields; points 1 samples 1 refused 2"}))
     check("another precision", node.curl("/write?precision=ms", body=line),
           (400, '{"error":"the precision of this node is ns"}\n'))
-    check("gzip", node.curl("/write", "-H", "Content-Encoding: gzip", body=gzip.compress(line))[0], 501)
-    check("a raw connection", ask_port(node.lines, line.decode()), "points 1 samples 1 refused 0\n")
+    [(status, fields, _)] = node.ask(post(gzip.compress(line), b"Content-Encoding: gzip"))
+    check("gzip", (status, fields["accept-encoding"]), (415, "identity"))
+    check("a line connection", send_lines(node, line.decode()), "points 1 samples 1 refused 0\n")
 
 
 def fetches(node):
-    words = "cf=LAST&resolution=60&start=0&end=180"
-    csv = ask_port(node.fetch, "fetch LAST 60 0 180 boiler temp\n")
-    check("a fetch", node.curl(f"/fetch?{words}&key=boiler%20temp"), (200, csv[:-1]))
-    check("with a plus", node.curl(f"/fetch?{words}&key=boiler+temp"), (200, csv[:-1]))
-    check("a refusal", node.curl(f"/fetch?{words}&key=boiler"), (400, "error BadKey\n"))
+    csv = "boiler temp,0,U\nboiler temp,60,21\nboiler temp,120,U\n"
+    check("a fetch", node.curl(f"/fetch?{MINUTES}&key=boiler%20temp"), (200, csv))
+    check("with a plus", node.curl(f"/fetch?{MINUTES}&key=boiler+temp"), (200, csv))
+    check("a refusal", node.curl(f"/fetch?{MINUTES}&key=boiler"), (400, "error BadKey\n"))
     check("a word less", node.curl("/fetch?cf=LAST"), (400, "error BadCommand\n"))
     check("no number", node.curl("/fetch?cf=LAST&resolution=60&last=x&key=a+b"), (400, "error BadNumber\n"))
     now = int(time.time())
@@ -70,61 +82,69 @@ def fetches(node):
 
 
 def as_json(node):
-    words = "cf=LAST&resolution=60&start=0&end=180"
     text = '{"key":"boiler temp","rows":[[0,null],[60,21],[120,null]]}\n'
-    check("a fetch as JSON", node.curl(f"/fetch?{words}&key=boiler+temp&format=json"), (200, text))
-    csv = node.curl(f"/fetch?{words}&key=boiler+temp")
-    check("a fetch as CSV", node.curl(f"/fetch?{words}&key=boiler+temp&format=csv"), csv)
-    check("another form", node.curl(f"/fetch?{words}&key=boiler+temp&format=xml"), (400, "error BadFormat\n"))
-    check("a refusal", node.curl(f"/fetch?{words}&key=boiler&format=json"), (400, "error BadKey\n"))
+    check("a fetch as JSON", node.curl(f"/fetch?{MINUTES}&key=boiler+temp&format=json"), (200, text))
+    csv = node.curl(f"/fetch?{MINUTES}&key=boiler+temp")
+    check("a fetch as CSV", node.curl(f"/fetch?{MINUTES}&key=boiler+temp&format=csv"), csv)
+    check("another form", node.curl(f"/fetch?{MINUTES}&key=boiler+temp&format=xml"), (400, "error BadFormat\n"))
+    check("a refusal", node.curl(f"/fetch?{MINUTES}&key=boiler&format=json"), (400, "error BadKey\n"))
     check("a key of all sorts", node.curl("/write", body=b'all,q="\\a,x=\x01\xff n=-7i 60000000000\n')[0], 204)
     key = "all,q=%22%5Ca,x=%01%FF+n"
-    status, text = node.curl(f"/fetch?{words}&key={key}&format=json")
+    status, text = node.curl(f"/fetch?{MINUTES}&key={key}&format=json")
     check("as JSON", (status, json.loads(text)), (200, {
         "key": 'all,q="\\a,x=\x01\ufffd n', "rows": [[0, None], [60, -7], [120, None]]}))
+
+
+def listed(node, query):
+    """The status and the keys of a list."""
+    status, text = node.curl(f"/series?{query}")
+    return status, text.splitlines()
 
 
 def keys(node):
     lines = "".join(f"many,n={i:05} v=1i 0\n" for i in range(1200))
     check("many series", node.curl("/write", body=lines.encode())[0], 204)
     of_many = [f"many,n={i:05} v" for i in range(1200)]
+    check("keys", listed(node, "prefix=many"), (200, of_many[:1000]))
+    check("all of them", listed(node, "prefix=many&count=10000"), (200, of_many))
+    check("from behind one", listed(node, "prefix=many&after=many,n=00999+v&count=3"), (200, of_many[1000:1003]))
+    check("from behind one that isn't there", listed(node, "after=many,n=009985+v&count=1"), (200, of_many[999:1000]))
+    check("none left", listed(node, "after=many,n=01199+v&prefix=many"), (200, []))
+    check("of another prefix", listed(node, "prefix=nobody"), (200, []))
+    check("behind no key", listed(node, "after=many"), (400, ["error BadKey"]))
+    check("too many", listed(node, "count=10001"), (400, ["error BadCount"]))
+    check("none", listed(node, "count=0"), (400, ["error BadCount"]))
+    check("no number", listed(node, "count=x"), (400, ["error BadNumber"]))
 
-    def listed(query):
-        status, text = node.curl(f"/series?{query}")
-        return status, text.splitlines()
 
-    check("keys", listed("prefix=many"), (200, of_many[:1000]))
-    check("all of them", listed("prefix=many&count=10000"), (200, of_many))
-    check("from behind one", listed("prefix=many&after=many,n=00999+v&count=3"), (200, of_many[1000:1003]))
-    check("from behind one that isn't there", listed("after=many,n=009985+v&count=1"), (200, of_many[999:1000]))
-    check("none left", listed("after=many,n=01199+v&prefix=many"), (200, []))
-    check("of another prefix", listed("prefix=nobody"), (200, []))
-    check("behind no key", listed("after=many"), (400, ["error BadKey"]))
-    check("too many", listed("count=10001"), (400, ["error BadCount"]))
-    check("none", listed("count=0"), (400, ["error BadCount"]))
-    check("no number", listed("count=x"), (400, ["error BadNumber"]))
+def counts_of(node):
+    """The numbers of a node by their names, with their labels. They are put up once a second."""
+    for _ in range(100):
+        text = node.curl("/metrics")[1]
+        if text:
+            return {name: float(number) for name, _, number in
+                    (line.rpartition(" ") for line in text.splitlines() if line[0] != "#")}
+        time.sleep(0.1)
+    fail("there are no numbers")
 
 
 def counts(node):
-    def count(text, name):
-        return int(next(line for line in text.splitlines() if line.startswith(f"{name} ")).split()[1])
-
-    # A write is answered before its round is over, in which the counts are put up, and after the round before it.
-    node.curl("/write", body=b"")
-    before = node.curl("/metrics")[1]
+    refused = 'rr_refused_total{fault="any"}'
+    time.sleep(2)
+    before = counts_of(node)
     node.curl("/write", body=b"counted n=1i 0\nrefused\n")
     for _ in range(100):
-        after = node.curl("/metrics")[1]
-        if count(after, "rr_points_total") > count(before, "rr_points_total"):
+        after = counts_of(node)
+        if after["rr_points_total"] > before["rr_points_total"]:
             break
         time.sleep(0.1)
-    for name, more in (("rr_points_total", 1), ("rr_samples_total", 1), ("rr_refused_total", 1)):
-        check(name, count(after, name) - count(before, name), more)
-    for answer in ("2xx", "4xx"):
-        name = f'rr_http_answers_total{{status="{answer}"}}'
-        check(name, count(after, name) > count(before, name), True)
-    check("what the node is", 'rr_info{version="2",origin="1"} 1' in after, True)
-    check("its archives", 'rr_archive_rows{resolution="60"} 2000' in after, True)
+    for name, more in (("rr_points_total", 1), ("rr_samples_total", 1), (refused, 1)):
+        check(name, after[name] - before[name], more)
+    for name in ("rr_journal_offset_bytes", *(f'rr_http_answers_total{{status="{it}"}}' for it in ("2xx", "4xx"))):
+        check(name, after[name] > before[name], True)
+    check("all of the journal is synced", after["rr_journal_synced_bytes"], after["rr_journal_offset_bytes"])
+    check("what the node is", after['rr_info{version="2",origin="1"}'], 1)
+    check("its archives", after['rr_archive_rows{resolution="60"}'], 2000)
 
 
 def page(node):
@@ -157,19 +177,44 @@ def clients(node):
                               b"Content-Type: application/x-www-form-urlencoded\r\n" + plain,
     }
     for name, request in requests.items():
-        check(name, status_of(node.ask(request)), 204)
+        check(name, node.ask(request)[0][0], 204)
 
 
 def refusals(node):
     check("no such path", node.curl("/nothing")[0], 404)
     check("a write by GET", node.curl("/write")[0], 405)
     check("a fetch by POST", node.curl("/fetch", body=b"")[0], 405)
-    ping = node.ask(b"GET /ping HTTP/1.1\r\nHost: a\r\n\r\n")
-    check("ping", (status_of(ping), b"\r\nx-influxdb-version: rr-2\r\n" in ping.lower()), (204, True))
-    head = node.ask(b"HEAD /health HTTP/1.1\r\nHost: a\r\n\r\n")
-    check("HEAD", (status_of(head), head.endswith(b"\r\n\r\n")), (200, True))
-    allow = node.ask(b"GET /write HTTP/1.1\r\nHost: a\r\n\r\n").lower()
-    check("what is allowed", b"\r\nallow: post\r\n" in allow, True)
+    [(status, fields, _)] = node.ask(get(b"/ping"))
+    check("ping", (status, fields["x-influxdb-version"]), (204, "rr-2"))
+    [(status, fields, _)] = node.ask(get(b"/write"))
+    check("what is allowed", (status, fields["allow"]), (405, "POST"))
+
+
+def at_once(node):
+    """Writes and fetches that are sent at once, each fetch for what the write before it wrote."""
+    fetch = get(b"/fetch?cf=LAST&resolution=60&start=0&end=60&key=order+n")
+    requests = b"".join(post(b"order n=%di 0\n" % number) + fetch for number in range(100))
+    answers = [(status, text) for status, _, text in node.ask(requests, 200)]
+    want = [answer for number in range(100) for answer in ((204, b""), (200, b"order n,0,%d\n" % number))]
+    check("two hundred requests at once, in order", answers, want)
+
+
+def connections(node):
+    """A connection stays until a side wants it to end."""
+    with node.connect() as stream, stream.makefile("rb") as reader:
+        for _ in range(3):
+            stream.sendall(get(b"/health"))
+            check("a connection that stays", read_answer(reader)[0], 200)
+        head, _, body = post(b"waited n=1i 0\n", b"Expect: 100-continue").partition(b"\r\n\r\n")
+        stream.sendall(head + b"\r\n\r\n")
+        check("a body that waits", read_answer(reader), (100, {}, b""))
+        stream.sendall(body)
+        check("and comes", read_answer(reader)[0], 204)
+        stream.sendall(b"HEAD /health HTTP/1.1\r\nHost: a\r\nConnection: close\r\n\r\n")
+        status, fields, _ = read_answer(reader, has_body=False)
+        check("the last one, by HEAD", (status, fields["connection"], reader.read()), (200, "close", b""))
+    old = node.ask_and_end(b"GET /health HTTP/1.0\r\n\r\n")
+    check("of HTTP/1.0, after which it ends", status_of(old), 200)
 
 
 def many_senders(node):
@@ -198,101 +243,115 @@ def many_senders(node):
     print("their rows: as expected")
 
 
-def held_keeper(node):
-    """A silent connection holds the keeper, so that a body is taken back; nothing of it is written."""
-    with socket.create_connection(("127.0.0.1", node.lines)):
-        time.sleep(0.5)
-        answer = node.ask(b"POST /write HTTP/1.1\r\nHost: a\r\nContent-Length: 12\r\n\r\nheld n=1i 0\n")
-        check("a node that is behind", (status_of(answer), b"\r\nretry-after: 1\r\n" in answer.lower()), (503, True))
-        node.is_well("while the keeper is held")
-    time.sleep(IDLE + 1)
-    held = node.curl("/fetch?cf=LAST&resolution=60&start=0&end=60&key=held+n")
-    check("what was taken back", held, (200, "held n,0,U\n"))
+def silent_lines(node):
+    """Line connections that are silent, after half a line or from the beginning: they hold nobody, and are ended in time."""
+    began = time.monotonic()
+    silent = [socket.create_connection(("127.0.0.1", node.lines), timeout=30) for _ in range(20)]
+    for stream in silent[10:]:
+        stream.sendall(b"whole n=1i 0\nhalf n=1")
+    check("a write beside silent lines", node.curl("/write", body=b"beside n=1i 0\n")[0], 204)
+    check("a line connection beside them", send_lines(node, "beside n=2i 60000000000\n"), "points 1 samples 1 refused 0\n")
+    if time.monotonic() - began > 2:
+        fail("silent line connections hold others")
+    check("they are ended without a report", [read_all(stream) for stream in silent], [b""] * 20)
+    if not IDLE * 0.9 < time.monotonic() - began < IDLE + 3:
+        fail("silent line connections are not ended in time")
+    check("a whole line is taken", node.curl(f"/fetch?{MINUTES}&key=whole+n")[1].splitlines()[0], "whole n,0,1")
+    check("half a line isn't", listed(node, "prefix=half"), (200, []))
 
 
 def hostile(node):
     huge = b"POST /write HTTP/1.1\r\nHost: a\r\nContent-Length: 4294967296\r\n\r\n"
-    check("4 GiB announced", status_of(node.ask(huge)), 413)
+    check("4 GiB announced", status_of(node.ask_and_end(huge)), 413)
     node.is_well("4 GiB announced")
     body = b"#" * (9 * 1024**2)
     check("9 MiB sent", node.curl("/write", "-H", "Expect:", body=body)[0], 413)
     node.is_well("9 MiB sent")
     chunked = b"POST /write HTTP/1.1\r\nHost: a\r\nTransfer-Encoding: chunked\r\n\r\nnonsense\r\n"
-    check("no chunks", status_of(node.ask(chunked)), 400)
-    check("no HTTP", status_of(node.ask(b"\x00" * 1000 + b"\r\n\r\n")), 400)
-    key = b"GET /fetch?key=" + b"a" * 100_000 + b" HTTP/1.1\r\nHost: a\r\n\r\n"
-    check("a key of 100 KB", status_of(node.ask(key)), 414)
+    check("no chunks", status_of(node.ask_and_end(chunked)), 400)
+    check("no HTTP", status_of(node.ask_and_end(b"\x00" * 1000 + b"\r\n\r\n")), 400)
+    check("a key of 100 KB", status_of(node.ask_and_end(get(b"/fetch?key=" + b"a" * 100_000))), 414)
+    check("a field of 100 KB", status_of(node.ask_and_end(get(b"/", b"Cookie: " + b"a" * 100_000))), 431)
     for _ in range(10_000):
-        socket.create_connection(("127.0.0.1", node.http)).close()
+        node.connect().close()
     node.is_well("ten thousand connections that ask nothing")
-    two = node.ask(b"GET /health HTTP/1.1\r\nHost: a\r\n\r\n" * 2)
-    check("two requests at once", two.count(b"HTTP/1.1 200"), 1)
-    node.is_well("nonsense")
-    silent = [socket.create_connection(("127.0.0.1", node.http)) for _ in range(8)]
-    for stream in silent:
+
+
+def halves(node):
+    """Halves of a head and of a body hold nobody, and are ended in time."""
+    began = time.monotonic()
+    waiting = [node.connect() for _ in range(40)]
+    for stream in waiting[:20]:
         stream.sendall(b"POST /write HTTP/1.1\r\nHo")
-    began = time.monotonic()
-    node.is_well("eight halves of a head")
-    if time.monotonic() - began > 3 * IDLE + 2:
-        fail("half a head holds a seat for too long")
-    for stream in silent:
-        stream.close()
+    for stream in waiting[20:]:
+        stream.sendall(post(b"half n=1i 0\n")[:-6])
+    node.is_well("halves of heads and bodies")
+    if time.monotonic() - began > 2:
+        fail("halves of requests hold others")
+    check("they are ended without an answer", [read_all(stream) for stream in waiting], [b""] * 40)
+    if not IDLE * 0.9 < time.monotonic() - began < IDLE + 3:
+        fail("halves of requests are not ended in time")
 
 
-def restarted(program, folder, node):
-    """What a node has that begins with the snapshot of another, which is killed."""
-    node.close()
-    return Node(program, folder, "durable = true\n", load=node.saved, origin=2)
+def kept(program, folder):
+    """What is acknowledged is there after a kill, whoever wrote it, and each start has an origin of its own."""
+    node = Node(program, folder)
+    try:
+        with concurrent.futures.ThreadPoolExecutor(SENDERS) as pool:
+            bodies = [b"kept,n=%02d v=1i 0\n" % number for number in range(SENDERS)]
+            statuses = list(pool.map(lambda body: node.curl("/write", body=body)[0], bodies))
+        check("writes at once", statuses, [204] * SENDERS)
+        check("a partial write", node.curl("/write", body=b"kept,n=partial v=1i 0\nkept v=1.5\n")[0], 400)
+        check("a line connection", send_lines(node, "kept,n=lines v=1i 0\n"), "points 1 samples 1 refused 0\n")
+        names = sorted([f"{number:02}" for number in range(SENDERS)] + ["lines", "partial"])
+        for origin in (2, 3):
+            node.kill()
+            node.start()
+            check("what is there after a kill", listed(node, "prefix=kept"), (200, [f"kept,n={name} v" for name in names]))
+            check("its origin", counts_of(node)[f'rr_info{{version="2",origin="{origin}"}}'], 1)
+        run = subprocess.run(node.words, capture_output=True, text=True, timeout=30, check=False)
+        check("a second one over its directory", (run.returncode, run.stderr), (3, f"rr: {node.data}: in use\n"))
+        node.is_well("a second one")
+    finally:
+        node.kill()
 
 
-def at_once(node, count):
-    """The statuses of so many writes, each of a series of its own, and how long all of them took."""
-    def send(number):
-        return node.curl("/write", body=f"kept,n={number} v={number}i 0\n".encode())[0]
-
-    began = time.monotonic()
-    with concurrent.futures.ThreadPoolExecutor(count) as pool:
-        return list(pool.map(send, range(count))), time.monotonic() - began
+def limit_files(node, most):
+    """Lets no file of a node grow beyond so many bytes."""
+    resource.prlimit(node.process.pid, resource.RLIMIT_FSIZE, (most, resource.RLIM_INFINITY))
 
 
-def durable(program, folder):
-    """Writes that wait for their snapshot: after the answer the node is killed, and another begins with the snapshot."""
-    for more, count, within in (("", 4, 20), ("every = 2\n", 6, 20), ("every = 3600\nhttp_seats = 3\n", 3, 20)):
-        what = more.replace("\n", " ").strip() or "without every"
-        node = Node(program, folder, f"durable = true\n{more}")
-        try:
-            # The first interval begins at once, so that its save isn't the one that is looked at.
-            check(f"{what}: a first write", node.curl("/write", body=b"first v=1i 0\n")[0], 204)
-            statuses, seconds = at_once(node, count)
-            check(f"{what}: writes", (statuses, seconds < within), ([204] * count, True))
-            node = restarted(program, folder, node)
-            got = [line for line in node.curl("/series?prefix=kept")[1].splitlines()]
-            check(f"{what}: what is kept", got, [f"kept,n={number} v" for number in range(count)])
-        finally:
-            node.close()
+def is_saved_again(node):
+    """Waits until a node says that it can acknowledge what it is sent."""
+    for _ in range(50):
+        if node.curl("/health")[0] == 200:
+            return True
+        time.sleep(0.1)
+    return False
 
 
-def failing_save(program, folder):
-    """The folder of the snapshot goes while the node runs: writes are answered as taken, and not as saved."""
-    folder = pathlib.Path(folder, "gone")
-    folder.mkdir()
-    node = Node(program, folder, "durable = true\n")
+def failing_journal(program, folder, lines):
+    """The journal can't grow for a while: so many lines are taken and answered as not saved, and are saved once they can be."""
+    node = Node(program, folder)
     try:
         check("a write that is saved", node.curl("/write", body=b"a v=1i 0\n")[0], 204)
-        shutil.rmtree(folder)
-        answer = node.curl("/write", body=b"b v=1i 0\n")
-        check("a write that isn't", answer, (500, '{"error":"the lines are taken, but not saved"}\n'))
-        check("it is taken", node.curl("/fetch?cf=LAST&resolution=60&start=0&end=60&key=b+v"), (200, "b v,0,1\n"))
+        limit_files(node, max(file.stat().st_size for file in node.data.glob("journal-*")) + 10)
+        answer = node.curl("/write", body=b"".join(b"b,n=%04d v=1i 0\n" % number for number in range(lines)))
+        check(f"{lines} lines that aren't", answer, (500, '{"error":"the lines are taken, but not saved"}\n'))
+        check("they are taken", listed(node, "prefix=b&count=1"), (200, ["b,n=0000 v"]))
+        check("a line connection", send_lines(node, "c v=1i 0\n"), "")
+        status, text = node.curl("/health")
+        check("/health", (status, json.loads(text)["status"]), (503, "fail"))
+        limit_files(node, resource.RLIM_INFINITY)
+        check("it can be saved again", is_saved_again(node), True)
+        check("the next write", node.curl("/write", body=b"d v=1i 0\n")[0], 204)
+        check("appends that failed", counts_of(node)["rr_journal_failed_appends_total"] > 0, True)
+        node.kill()
+        node.start()
+        names = ["a v", *(f"b,n={number:04} v" for number in range(lines)), "c v", "d v"]
+        check("all of them are kept", listed(node, "count=10000"), (200, names))
     finally:
-        node.close()
-
-
-def unsaved(program, folder):
-    """A configuration whose writes would wait for a save that never comes."""
-    config = pathlib.Path(folder, "node.toml")
-    run = subprocess.run([program, "serve", str(config), "--origin", "1"], capture_output=True, text=True, check=False)
-    check("durable without --save", (run.returncode, run.stderr.splitlines()),
-          (2, ["rr: durable: there is no --save", "config: MissingField"]))
+        node.kill()
 
 
 def main():
@@ -302,16 +361,17 @@ def main():
     with tempfile.TemporaryDirectory() as folder:
         node = Node(program, folder)
         try:
-            for step in (writes, clients, fetches, as_json, counts, page, keys, refusals, many_senders, held_keeper, hostile):
+            for step in (writes, clients, fetches, as_json, counts, page, keys, refusals, at_once, connections,
+                         many_senders, silent_lines, hostile, halves):
                 step(node)
             check("the node", node.process.poll(), None)
         finally:
-            node.close()
-    for step in (durable, failing_save):
+            node.kill()
+    with tempfile.TemporaryDirectory() as folder:
+        kept(program, folder)
+    for lines in (5_000, 1):
         with tempfile.TemporaryDirectory() as folder:
-            step(program, folder)
-            if step is durable:
-                unsaved(program, folder)
+            failing_journal(program, folder, lines)
 
 
 main()

@@ -1,4 +1,4 @@
-"""A node that is asked over HTTP, for http_api.py, influx_client.py and page.py."""
+"""A node that is asked over HTTP, for http_api.py, influx_client.py, mutated.py and page.py."""
 
 import pathlib
 import socket
@@ -9,13 +9,13 @@ import time
 IDLE = 5
 CONFIG = """\
 step = 60
-lines = "127.0.0.1:{0}"
-fetch = ["127.0.0.1:{1}"]
-http = "127.0.0.1:{2}"
+http = "127.0.0.1:{http}"
+lines = "127.0.0.1:{lines}"
+origins = [1, 1000]
 idle = {idle}
 lead = 300_000_000_000
 quiet = true
-{more}
+
 [[archive]]
 steps = 1
 rows = 2000
@@ -44,6 +44,7 @@ def free_ports(count):
 
 
 def read_all(stream):
+    """What comes until the other side ends the connection, in order or by a reset."""
     text = b""
     try:
         while piece := stream.recv(65536):
@@ -53,39 +54,49 @@ def read_all(stream):
     return text
 
 
-def answer_of(port, request, timeout=30):
-    """All that is answered on a connection to bytes, after which this side stays open."""
-    with socket.create_connection(("127.0.0.1", port), timeout=timeout) as stream:
-        try:
-            stream.sendall(request)
-        except ConnectionError:
-            pass
-        return read_all(stream)
+def read_answer(reader, has_body=True):
+    """The status, the fields and the text of the next answer on a connection; nothing if it has ended."""
+    line = reader.readline()
+    if not line:
+        return None
+    fields = {}
+    while field := reader.readline().strip():
+        name, _, value = field.decode().partition(":")
+        fields[name.lower()] = value.strip()
+    length = int(fields.get("content-length", "0")) if has_body else 0
+    return int(line.split(b" ", 2)[1]), fields, reader.read(length)
 
 
 class Node:
-    """A node that saves to `saved` in a folder, and what curl is answered by it. Its configuration may have more keys."""
+    """A node in a folder, whose data are in a directory there, and what it answers."""
 
-    def __init__(self, program, folder, more="", load=None, origin=1):
-        self.lines, self.fetch, self.http = free_ports(3)
-        self.saved = pathlib.Path(folder, "saved")
+    def __init__(self, program, folder):
+        self.http, self.lines = free_ports(2)
+        self.data = pathlib.Path(folder, "data")
         config = pathlib.Path(folder, "node.toml")
-        config.write_text(CONFIG.format(self.lines, self.fetch, self.http, idle=IDLE, more=more))
-        words = [program, "serve", str(config), "--origin", str(origin), "--save", str(self.saved)]
-        if load:
-            words += ["--load", str(load)]
-        self.process = subprocess.Popen(words)
+        config.write_text(CONFIG.format(http=self.http, lines=self.lines, idle=IDLE))
+        # Where a file may grow no more, its write is to fail, and no signal to end the node.
+        self.words = ["env", "--ignore-signal=XFSZ", program, "node", str(config), "--data", str(self.data)]
+        self.start()
+
+    def start(self):
+        self.process = subprocess.Popen(self.words)
         for _ in range(200):
             try:
-                socket.create_connection(("127.0.0.1", self.http)).close()
+                self.connect().close()
                 return
             except ConnectionRefusedError:
+                if self.process.poll() is not None:
+                    fail(f"the node ended with status {self.process.returncode}")
                 time.sleep(0.05)
         fail("the node doesn't listen")
 
-    def close(self):
+    def kill(self):
         self.process.kill()
         self.process.wait()
+
+    def connect(self, timeout=30):
+        return socket.create_connection(("127.0.0.1", self.http), timeout=timeout)
 
     def curl(self, path, *words, body=None):
         """The status and the text that curl is answered."""
@@ -98,8 +109,20 @@ class Node:
         text, _, status = run.stdout.rpartition(b"\n")
         return int(status), text.decode()
 
-    def ask(self, request):
-        return answer_of(self.http, request)
+    def ask(self, request, count=1, has_body=True):
+        """The first answers to bytes on a connection of their own."""
+        with self.connect() as stream, stream.makefile("rb") as reader:
+            stream.sendall(request)
+            return [read_answer(reader, has_body) for _ in range(count)]
+
+    def ask_and_end(self, request):
+        """All that is answered to bytes, after which the node has to end the connection."""
+        with self.connect() as stream:
+            try:
+                stream.sendall(request)
+            except ConnectionError:
+                pass
+            return read_all(stream)
 
     def is_well(self, what):
         check(f"{what}: then /health", self.curl("/health")[0], 200)

@@ -57,7 +57,7 @@ def main():
                   (400, '{"error":"the precision of this node is ns"}'))
             node.is_well("at the end")
         finally:
-            node.close()
+            node.kill()
 
 
 if __name__ == "__main__":

@@ -123,6 +123,11 @@ SHAPES = """JSON.stringify([...document.querySelectorAll("#plot path")].map((pat
 }))"""
 
 
+# A count of the node, by its name.
+COUNT_OF = """(name) => [...document.querySelectorAll("#state div")]
+    .find((count) => count.firstChild.textContent === name)?.lastChild.textContent"""
+
+
 def shapes_of(*shapes):
     return json.dumps([list(shape) for shape in shapes], separators=(",", ":"))
 
@@ -137,8 +142,8 @@ def look(node, browser, picture):
     browser.value("document.querySelectorAll('#series button').forEach((button) => button.click())")
     known = MINUTES - MISSING
     browser.wait_for("the points and the gap", SHAPES, shapes_of((LINES[0], known, 2), (LINES[1], MINUTES, 1)))
-    browser.wait_for("the counts", "[...document.querySelectorAll('#state dd')].some((count) => count.textContent === "
-                     f"'{MINUTES + known}')", True)
+    browser.wait_for("the counts", f"({COUNT_OF})('samples')", str(MINUTES + known))
+    browser.wait_for("the count of series, once it is taken", f"({COUNT_OF})('series')", "2")
     hash_of = urllib.parse.unquote_plus(browser.value("location.hash"))
     check("the address", all(f"key={line}" in hash_of for line in LINES), True)
     browser.value("""(() => { const range = document.getElementById('range'); range.value = '21600';
@@ -168,7 +173,7 @@ def main():
             look(node, browser, sys.argv[2] if len(sys.argv) == 3 else None)
         finally:
             browser.close()
-            node.close()
+            node.kill()
 
 
 main()
