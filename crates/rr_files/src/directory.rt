@@ -151,7 +151,7 @@ impl<'a, R: Files> DataDirectory<'a, R> {
         file.write_all(&header)?;
         file.sync_all()?;
         give_name(self.rt, alloc, self.path, name)?;
-        Ok(JournalFile::new(alloc, file, header.len() as u64))
+        Ok(JournalFile::new(file, header.len() as u64))
     }
 
     /// The last file of the journal, to go on behind what was read of it: the last bytes, which are a
@@ -174,7 +174,7 @@ impl<'a, R: Files> DataDirectory<'a, R> {
         file.set_len(len)?;
         file.sync_all()?;
         file.seek(SeekFrom::Start(len))?;
-        Ok(JournalFile::new(alloc, file, len))
+        Ok(JournalFile::new(file, len))
     }
 
     /// Where a checkpoint is written, after which the journal is read from an offset on. It is written

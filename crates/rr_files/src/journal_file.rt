@@ -1,13 +1,9 @@
 //! The last file of a journal, to which a node appends.
 
 use rr_journal::{Journal, JournalFailed};
-use std::alloc::Global;
 use std::fs::OpenFile;
 use std::io;
 use std::io::{Seek, SeekFrom, Write};
-
-/// How many bytes are put together before they are written by one call.
-const PIECE: usize = 65_536;
 
 /// What may be done with a file.
 #[derive(Clone, Copy, PartialEq, Eq)]
@@ -23,16 +19,15 @@ enum State {
 /// The last file of a journal. Nothing is known of what the system does with it, so contracts see
 /// neither its text nor what of it is synced.
 ///
-/// What is appended is held back until there are 64 KiB, and written whole by `sync`. A crash leaves
-/// the bytes that were synced, and behind them anything at all. After an append that failed it takes
-/// `cut_back` alone, which makes the file as it was at the last sync, and goes on; after a sync or a
-/// `cut_back` that failed nobody knows what the disk has, so it refuses all from then on, and is to be
-/// opened anew.
+/// Each piece is handed to the system when it is appended, and nothing is held back: a disk that is
+/// full is then an append that failed, and no sync that did. A crash leaves the bytes that were synced,
+/// and behind them anything at all. After an append that failed it takes `cut_back` alone, which makes
+/// the file as it was at the last sync, and goes on; after a sync or a `cut_back` that failed nobody
+/// knows what the disk has, so it refuses all from then on, and is to be opened anew.
 #[derive(Drop)]
 pub struct JournalFile<F> {
     file: F,
-    held_back: Vec<u8>,
-    /// How many bytes were appended, those held back among them.
+    /// How many bytes were appended.
     len: u64,
     /// How many of these are synced.
     synced: u64,
@@ -41,10 +36,9 @@ pub struct JournalFile<F> {
 
 impl<F: Write + Seek + OpenFile> JournalFile<F> {
     /// A file with this many bytes, all of them synced, at whose end writing goes on.
-    pub(crate) fn new(alloc: Global, file: F, len: u64) -> JournalFile<F> {
+    pub(crate) fn new(file: F, len: u64) -> JournalFile<F> {
         JournalFile {
             file,
-            held_back: Vec::new(alloc),
             len,
             synced: len,
             state: State::Whole,
@@ -56,30 +50,15 @@ impl<F: Write + Seek + OpenFile> JournalFile<F> {
         self.synced
     }
 
-    /// Writes what is held back.
-    fn write_held_back(&mut self) -> io::Result<()> {
-        self.file.write_all(&self.held_back)?;
-        self.held_back.clear();
-        Ok(())
-    }
-
-    /// Holds a piece back, or writes it behind all that is.
+    /// Writes a piece behind all that is.
     fn take(&mut self, piece: &[u8]) -> io::Result<()> {
-        if piece.len() > PIECE.saturating_sub(self.held_back.len()) {
-            self.write_held_back()?;
-        }
-        if piece.len() > PIECE {
-            self.file.write_all(piece)?;
-        } else {
-            self.held_back.extend_from_slice(piece)?;
-        }
+        self.file.write_all(piece)?;
         self.len = self.len.saturating_add(piece.len() as u64);
         Ok(())
     }
 
-    /// Writes and syncs all. A file's length is synced with its data.
+    /// Syncs all. A file's length is synced with its data.
     fn sync_all(&mut self) -> io::Result<()> {
-        self.write_held_back()?;
         self.file.sync_data()?;
         self.synced = self.len;
         Ok(())
@@ -87,7 +66,6 @@ impl<F: Write + Seek + OpenFile> JournalFile<F> {
 
     /// Cuts off what isn't synced, and goes back to the end of the rest.
     fn cut(&mut self) -> io::Result<()> {
-        self.held_back.clear();
         self.file.set_len(self.synced)?;
         self.file.seek(SeekFrom::Start(self.synced))?;
         self.len = self.synced;

@@ -68,7 +68,7 @@ fn a_journal_keeps_what_is_synced(rt: HostRuntime) {
     let lens = journal_lens(&rt, rt.alloc());
     let wanted = [
         (62, 62),
-        (62, 62),
+        (62, 69),
         (69, 69),
         (69, 100_069),
         (69, 69),
