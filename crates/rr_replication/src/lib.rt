@@ -26,8 +26,8 @@ mod cells;
 mod fault;
 pub mod laws;
 mod part;
-mod reading;
+mod records;
 
 pub use fault::PartFault;
 pub use part::{MAX_PART, Part, part_from};
-pub use reading::read_part;
+pub use records::read_part;

@@ -12,7 +12,7 @@ use Rattle.rr_recovery.proofs.ReplayLemmas.{one_more}
 use Rattle.rr_replication.specs.declared.fault.PartFault.{PartFault}
 use Rattle.rr_replication.specs.Reading.{peer_state}
 use Rattle.rr_replication.proofs.ReadingLemmas.{ReadsTheSame, is_read, is_refused, keeps_then, reads_on}
-use Rattle.rr_replication.proofs.reading.read_records.Goals as goal
+use Rattle.rr_replication.proofs.records.read_records.Goals as goal
 
 pub returns-in_err-push_record-in-Whole-clause-read : goal.returns-in_err-push_record-in-Whole-clause-read
 returns-in_err-push_record-in-Whole-clause-read g c =

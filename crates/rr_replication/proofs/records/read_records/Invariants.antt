@@ -4,7 +4,7 @@ use Rattle.rr_cells.specs.Listing.{owned_cell}
 use Rattle.rr_recovery.proofs.ReplayLemmas.{SoFar}
 use Rattle.rr_replication.specs.Reading.{Keeps}
 use Rattle.rr_replication.proofs.ReadingLemmas.{ReadsTheSame}
-use Rattle.rr_replication.proofs.reading.read_records.Given as goal
+use Rattle.rr_replication.proofs.records.read_records.Given as goal
 
 -- to read the records that are left now is to read all
 abbrev pub invariant-loop : goal.invariant-loop

@@ -33,7 +33,7 @@ fn step_from<R: Read>(
     let _offset = place.offset;
     match step {
         Ok(step) => Ok(step),
-        // The reading of a slice doesn't fail, so memory ran out.
+        // A slice can be read without fail, so memory ran out.
         Err(_) => Err(PartFault::Memory),
     }
 }
