@@ -5,7 +5,7 @@ use crate::node::logbook::Logbook;
 use crate::node::numbers::Numbers;
 use crate::node::shared::{Answered, Desired, Shared};
 use crate::server::OUT_OF_MEMORY;
-use rr_batch::{Answers, BatchFault, Waiting, Writer, commit_batch};
+use rr_batch::{Answers, BatchFault, Waiting, Writer, commit_batch, commit_origin};
 use rr_command_line::PRODUCT;
 use rr_desk::Keeper;
 use rr_files::DataDirectory;
@@ -137,8 +137,23 @@ impl<F: Write + Seek + OpenFile + Drop> Keeping<F> {
         }
     }
 
+    /// Records the origin of this start, and says whether that is saved. The file that has the first
+    /// record of it goes with the checkpoint that makes it needless, so the next file has it too.
+    fn record_origin(&mut self) -> bool {
+        let origin = self.numbers.origin();
+        let logbook = &mut self.logbook;
+        commit_origin(
+            self.alloc,
+            origin,
+            &mut logbook.journal,
+            &mut logbook.cursor,
+        )
+        .is_ok()
+    }
+
     /// Begins another file of the journal and asks for a checkpoint, where one is due. Where the file
-    /// can't be made, the journal goes on in the one that there is.
+    /// can't be made, the journal goes on in the one that there is; where it can't be written, no
+    /// checkpoint is asked for.
     fn ask_for_checkpoint<R: Files<File = F> + Eprint + Wait>(
         &mut self,
         rt: &R,
@@ -154,9 +169,11 @@ impl<F: Write + Seek + OpenFile + Drop> Keeping<F> {
         match directory.create_journal(self.alloc, &begins, keeper.schema()) {
             Ok(journal) => {
                 self.logbook.journal = journal;
-                self.logbook.is_asked = true;
-                let checkpoints: &Desired = &self.shared.checkpoints;
-                checkpoints.ask(rt, begins);
+                if self.record_origin() {
+                    self.logbook.is_asked = true;
+                    let checkpoints: &Desired = &self.shared.checkpoints;
+                    checkpoints.ask(rt, begins);
+                }
             }
             Err(error) => tell(rt, path, error),
         }

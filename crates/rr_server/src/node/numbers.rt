@@ -65,6 +65,11 @@ impl Numbers {
         }
     }
 
+    /// The origin of the node's samples.
+    pub(crate) fn origin(&self) -> Origin {
+        self.origin
+    }
+
     /// Counts an append that failed.
     pub(crate) fn append_failed(&mut self) {
         self.failed_appends = self.failed_appends.saturating_add(1);
