@@ -1,11 +1,11 @@
 -- Lines of a connection, served among the writes of others.
-use Rattle.std.proofs.Common.{◌≡◌, ℕ, ◌+◌, ℤ, true, false, List, [], ◌∷◌, ◌++◌, length, Some, None, refl, sym, ap, subst, ◌∙◌, arith, append_assoc, length-append}
+use Rattle.std.proofs.Common.{◌≡◌, ℕ, ◌+◌, ℤ, true, List, [], ◌∷◌, ◌++◌, length, Some, None, refl, sym, ap, subst, ◌∙◌, arith, append_assoc, length-append}
 use Rattle.std.specs.Prelude.{count_by, fold, if◌then◌else◌}
 use Rattle.std.proofs.lemmas.List.{append-nil}
 use Rattle.std.proofs.lemmas.List.Sums.{fold-append, sum_by-append}
 use Rattle.rr_desk.specs.KeeperState.{KeeperState, own_replica}
 use Rattle.rr_feed.specs.Items.{Item, items}
-use Rattle.rr_feed.specs.Feed.{FeedState, state, items_left, HandsOut}
+use Rattle.rr_feed.specs.Feed.{FeedState, state, HandsOut}
 use Rattle.rr_feed.specs.Laws.{IsFed}
 use Rattle.rr_feed.proofs.FedLemmas.{IsFed-new, IsFed-push, IsFed-next_line, IsFed-end, IsFed-all}
 use Rattle.rr_node.specs.declared.answer.Answer.{Answer}
@@ -14,7 +14,7 @@ use Rattle.rr_node.specs.declared.line_stream.LineStream.{LineStream}
 use Rattle.rr_node.specs.declared.rules.Rules.{Rules}
 use Rattle.rr_node.specs.Connection.{ConnectionTakesPiece, IsNew, ServesAllAmong, ServesAmong, served_so_far, text_to}
 use Rattle.rr_node.specs.Lines.{Served, answer_to, asks_clock, first_of, verdict_of, with_item, with_verdict}
-use Rattle.rr_node.specs.LineStream.{EndsAmong, HasHanded, IsFresh, TakesAmong, rules_by, stands}
+use Rattle.rr_node.specs.LineStream.{EndsAmong, IsFresh, TakesAmong, rules_by, stands}
 use Rattle.rr_node.proofs.ConnectionLemmas.{Counts, SameButFeed, asked_more, item_served, report_of_answer, text_of_answer}
 
 -- ---- items of a connection
