@@ -143,7 +143,7 @@ bytes_in key = key.items
 
 -- ---- lines of no name
 
--- so many are counted beside those that are
+-- further lines are counted beside these
 pub others_counted : (old now new : RefusalCounts) (lines more : ℕ) (named : List ℕ → ℕ) → Counts old now lines named
     → new.named ≡ now.named → new.other ≡ now.other + more → Counts old new (lines + more) named
 others_counted old now new lines more named counted same others =

@@ -58,7 +58,7 @@ all_lines counts = sum (values counts.named) + counts.other
 abbrev pub HasRoom : RefusalCounts → Type 0
 HasRoom counts = btree_map_len counts.named < MAX_NAMES
 
--- so many lines more are counted; as long as a further name would be counted, so many of each name
+-- this number of lines was added to the counts; as long as a further name would be counted, this number to each name
 pub record Counts (old new : RefusalCounts) (lines : ℕ) (named : List ℕ → ℕ) : Type 0 where
   pub all : all_lines new ≡ all_lines old + lines
   pub room : HasRoom new → HasRoom old

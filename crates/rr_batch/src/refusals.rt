@@ -63,7 +63,7 @@ impl RefusalCounts {
         }
     }
 
-    /// Counts so many lines under no name.
+    /// Counts lines that have no name of their own.
     fn add_other(&mut self, lines: u64)
         ensures named { self.new.named ≡ self.old.named }
         ensures other { self.new.other ≡ min (self.old.other + lines) (2 ^ 64 - 1) }
@@ -123,9 +123,9 @@ impl RefusalCounts {
         Ok(lines)
     }
 
-    /// Counts so many refused lines, of which the text tells some: each line `line N: NAME` of it that
-    /// ends in a line feed counts under its name, and the refused lines that are left as `other`. A
-    /// text with more lines than were refused counts with all its lines.
+    /// Counts refused lines, given their number and the text that names some of them: each line
+    /// `line N: NAME` that ends in a line feed counts under its name, and the refused lines that are
+    /// left count as `other`. A text with more lines than were refused counts with all its lines.
     ///
     /// If memory runs out, some of the lines are counted. The cost is linear in the text; finding the
     /// count of a name is logarithmic in the names, of which there are at most [`MAX_NAMES`].

@@ -278,7 +278,7 @@ few_listed r after cells is =
     let most = length-take MAX_RECORD_CELLS (cells_after after (entries (cells_seen r))) in
     omega (arith, same, most)
 
--- so many with those before
+-- the cells of a list are as many as those that it lists
 pub many_listed : (n : ℕ) (es : List NamedCell) (cells : List Cell) → map owned_cell cells ≡ es
     → 2 ^ 64 ≤ n + length cells → 2 ^ 64 ≤ n + length es
 many_listed n es cells is many = let same = listed_len es cells is in omega (arith, same, many)

@@ -44,7 +44,7 @@ unused_ok : (used : Bool) (r : Taken) (y : Recovery) → unless OriginUsed used 
 unused_ok true r y e = absurd cc
 unused_ok false r y e = e
 
--- so many cells more are counted, up to the greatest number
+-- this number of cells was added to the count, which stops at its greatest value
 abbrev CountsMore : Recovery → Recovery → ℕ → Type 0
 CountsMore x y n = y.found.cells ≡ min (x.found.cells + n) (2 ^ 64 - 1)
 

@@ -8,8 +8,8 @@ use Rattle.rr_replication.specs.Part.{part_from}
 
 -- ---- any part
 
--- so many bytes from an offset on, in a file: at least one, none behind the end, and none behind where the next file
--- begins
+-- a part of this length, from an offset on, lies in one file: it has at least one byte, none behind the end, and none
+-- behind where the next file begins
 pub record AreWithin (files : List ℕ) (end from file skip len : ℕ) : Type 0 where
   pub begins : Contains files file
   pub skipped : file + skip ≡ from
@@ -48,7 +48,7 @@ bytes_of begin files (Bytes file skip len) = take len (drop skip (file_at begin 
 bytes_of begin files Nothing = []
 bytes_of begin files Gone = []
 
--- the bytes of so many parts, each asked for from the end of the one before it
+-- the bytes of this number of parts, each asked for from the end of the one before it
 abbrev pub given : ℕ → ℕ → List (List ℕ) → ℕ → ℕ → List ℕ
 given zero begin files end from = []
 given (suc n) begin files end from =

@@ -28,7 +28,7 @@ PartsAreTaken =
     → after_part s x (take len (records_text x.place.digest (r ∷ rs)))
     ≡ Ok (with_records x (whole_within len (r ∷ rs)) ms)
 
--- after parts of a text that begins at an offset: each is from the peer's place on, and of at most so many bytes
+-- after parts of a text that begins at an offset: each from the peer's place on, with at most the next of these lengths
 abbrev pub after_parts : Layout → PeerState → ℕ → List ℕ → List ℕ → Result PeerState PartFault
 after_parts s x begin text [] = Ok x
 after_parts s x begin text (len ∷ lens) =
@@ -73,7 +73,7 @@ HaveRecords [] = Unit {0}
 HaveRecords (rs ∷ []) = Unit {0}
 HaveRecords (rs ∷ (next ∷ files)) = (1 ≤ length rs) × HaveRecords (next ∷ files)
 
--- after a peer has asked a node so many times, each time from its place on
+-- after a peer has asked a node this number of times, each time from its place on
 abbrev pub follow : ℕ → Layout → ℕ → List (List ℕ) → ℕ → PeerState → Result PeerState PartFault
 follow zero s begin files end x = Ok x
 follow (suc n) s begin files end x =
