@@ -1,98 +1,308 @@
 #!/usr/bin/env python3
-"""Three nodes on this machine that exchange what they know, and one that is killed and restarted.
+"""Three nodes that follow each other's journals through proxies that drop, cut, delay and repeat answers.
 
-    examples/three-nodes/run.py PROGRAM
+usage: examples/three-nodes/run.py PROGRAM [SECONDS] [SEED]
 
-PROGRAM is the built program, crates/rr_tool/out/rr_tool. Each node is sent a reading of its own; they pull
-from each other until all answer alike; the third is killed by SIGKILL and restarted from its last snapshot
-under a new origin, and answers as before. Ends with status 1 where something else comes.
+PROGRAM is the built program, crates/rr_tool/out/rr_tool. Senders write to all three nodes, and send again what isn't
+acknowledged. Meanwhile nodes are killed with SIGKILL and started again from their directories, and one is stopped for
+half of the time, while the others have to take lines and answer fetches as before. SECONDS is 120 and SEED 1, if
+missing. In the end the proxies pass on everything, and each series has to be answered alike by all three, as a model
+says that keeps each sample. Ends with status 1 where something else comes.
 """
 
+import http.client
 import pathlib
+import random
+import signal
 import socket
 import subprocess
 import sys
 import tempfile
+import threading
 import time
 
-HERE = pathlib.Path(__file__).resolve().parent
-NODES = {"a": 1, "b": 2, "c": 3}
-FETCH = b"fetch LAST 60 0 240 boiler,site=north temp\n"
-ALL = (
-    b'"boiler,site=north temp",0,71200\n'
-    b'"boiler,site=north temp",60,71900\n'
-    b'"boiler,site=north temp",120,71800\n'
-    b'"boiler,site=north temp",180,U\n\n'
-)
+CONFIG = """\
+step = 60
+http = "127.0.0.1:{http}"
+origins = [{first}, {last}]
+peers = [{peers}]
+lead = 1_000_000_000_000_000_000
+quiet = true
+
+[[archive]]
+steps = 1
+rows = 20000
+xff_num = 0
+xff_den = 1
+"""
+
+NAMES = "abc"
+BEGIN = 1_700_000_040
+SERIES = 20
+# For how many seconds the nodes may take to answer alike in the end.
+PATIENCE = 120
+# For how many seconds a line or a fetch may take, whatever a peer does.
+LONGEST = 2
 
 
-def ask(port, text):
-    """What is answered to a text on a connection of its own."""
-    for _ in range(100):
+def free_ports(count):
+    listeners = [socket.create_server(("127.0.0.1", 0)) for _ in range(count)]
+    ports = [listener.getsockname()[1] for listener in listeners]
+    for listener in listeners:
+        listener.close()
+    return ports
+
+
+class Proxy:
+    """Passes on what one node asks another, and does with the answers what a bad network does."""
+
+    def __init__(self, port, target, seed):
+        self.target, self.random = target, random.Random(seed)
+        self.is_bad, self.before, self.bytes = True, {}, 0
+        self.listener = socket.create_server(("127.0.0.1", port))
+        threading.Thread(target=self.accept, daemon=True).start()
+
+    def accept(self):
+        while True:
+            stream, _ = self.listener.accept()
+            threading.Thread(target=self.serve, args=(stream,), daemon=True).start()
+
+    def serve(self, stream):
         try:
-            with socket.create_connection(("127.0.0.1", port), timeout=10) as stream:
-                stream.sendall(text)
-                stream.shutdown(socket.SHUT_WR)
-                return b"".join(iter(lambda: stream.recv(65536), b""))
-        except ConnectionRefusedError:
-            time.sleep(0.1)
-    sys.exit(f"nothing listens on port {port}")
+            with stream, stream.makefile("rb") as reader:
+                while self.pass_on(stream, reader):
+                    pass
+        except OSError:
+            pass
+
+    def pass_on(self, stream, reader):
+        """Passes on a request and its answer, and says whether the connection stays."""
+        request = b""
+        while not request.endswith(b"\r\n\r\n"):
+            line = reader.readline()
+            if not line:
+                return False
+            request += line
+        answer = self.ask(request)
+        self.bytes += len(request) + len(answer)
+        if not self.is_bad:
+            stream.sendall(answer)
+            return True
+        kind = request.split(b"?")[0]
+        what = self.random.choices(["pass", "drop", "cut", "delay", "repeat"], [80, 5, 5, 5, 5])[0]
+        before, self.before[kind] = self.before.get(kind, answer), answer
+        if what == "drop":
+            return False
+        if what == "cut":
+            stream.sendall(answer[:self.random.randrange(len(answer))])
+            return False
+        if what == "delay":
+            time.sleep(self.random.random() * 2)
+        stream.sendall(before if what == "repeat" else answer)
+        return True
+
+    def ask(self, request):
+        """The whole answer of the node behind."""
+        with socket.create_connection(("127.0.0.1", self.target), timeout=10) as stream, \
+                stream.makefile("rb") as reader:
+            stream.sendall(request)
+            answer, length = b"", 0
+            while not answer.endswith(b"\r\n\r\n"):
+                line = reader.readline()
+                if not line:
+                    raise ConnectionError
+                if line.lower().startswith(b"content-length:"):
+                    length = int(line.split(b":")[1])
+                answer += line
+            return answer + reader.read(length)
 
 
-def start(program, name, origin, folder, load=False):
-    snapshot = folder / f"{name}.snapshot"
-    words = [program, "serve", HERE / f"{name}.toml", "--origin", str(origin), "--save", snapshot]
-    if load:
-        words += ["--load", snapshot]
-    return subprocess.Popen(words)
+class Node:
+    """One of the three, in a folder."""
+
+    def __init__(self, program, folder, place, port, peers):
+        self.port, self.lock, self.is_stopped = port, threading.Lock(), False
+        config = folder / f"{NAMES[place]}.toml"
+        first = 1 + 20_000 * place
+        config.write_text(CONFIG.format(
+            http=port, first=first, last=first + 19_999, peers=", ".join(f'"127.0.0.1:{it}"' for it in peers)))
+        self.words = [program, "node", str(config), "--data", str(folder / NAMES[place])]
+        self.start()
+
+    def start(self):
+        self.process = subprocess.Popen(self.words, stderr=subprocess.DEVNULL)
+        for _ in range(400):
+            try:
+                socket.create_connection(("127.0.0.1", self.port), timeout=1).close()
+                return
+            except OSError:
+                if self.process.poll() is not None:
+                    sys.exit(f"a node ended with status {self.process.returncode}")
+                time.sleep(0.05)
+        sys.exit("a node doesn't listen")
+
+    def restart(self):
+        with self.lock:
+            self.process.kill()
+            self.process.wait()
+            self.start()
+
+    def ask(self, method, target, body=None):
+        """The status and the text that is answered, and the seconds until then."""
+        began = time.monotonic()
+        connection = http.client.HTTPConnection("127.0.0.1", self.port, timeout=30)
+        try:
+            connection.request(method, target, body)
+            answer = connection.getresponse()
+            text = answer.read()
+        finally:
+            connection.close()
+        return answer.status, text, time.monotonic() - began
 
 
-def check(what, got, want):
-    print(f"{what}: {got.decode().rstrip()}")
-    if got != want:
-        sys.exit(f"expected: {want.decode()}")
+class Sender(threading.Thread):
+    """Writes to one node, and keeps each sample."""
+
+    def __init__(self, node, place, seed):
+        super().__init__(daemon=True)
+        self.node, self.place, self.random = node, place, random.Random(seed)
+        self.samples, self.is_over, self.longest, self.again = [], False, 0, 0
+
+    def run(self):
+        row = 0
+        while not self.is_over:
+            batch = []
+            for series in range(SERIES):
+                # The three nodes write to the same rows, each at a second of its own.
+                second = BEGIN + 60 * row + 10 * (self.place + 1)
+                batch.append((series, second, self.random.randrange(-1000, 1000)))
+            row += 1
+            body = "".join(f"m,s=s{it[0]} v={it[2]}i {it[1]}000000000\n" for it in batch)
+            while not self.send(body):
+                self.again += 1
+                time.sleep(0.05)
+            self.samples += batch
+            time.sleep(0.02)
+
+    def send(self, body):
+        if self.node.is_stopped:
+            time.sleep(0.2)
+            return False
+        try:
+            status, _, seconds = self.node.ask("POST", "/write", body)
+        except (OSError, http.client.HTTPException):
+            return False
+        if not self.node.is_stopped:
+            self.longest = max(self.longest, seconds)
+        return status == 204
 
 
-def pull_until_alike():
-    """Empty line connections make the nodes pull, until all answer with all readings."""
-    for _ in range(50):
-        for number in NODES.values():
-            ask(8110 + number, b"")
-        if all(ask(8120 + number, FETCH) == ALL for number in NODES.values()):
-            return
-        time.sleep(0.1)
+def expected(samples):
+    """The rows that a model has, which keeps each sample: by series and function."""
+    rows = {}
+    for series, second, value in samples:
+        rows.setdefault(series, {}).setdefault(second // 60 * 60, []).append((second, value))
+    return rows
 
 
-def run(program, folder, running):
-    for name, number in NODES.items():
-        running[name] = start(program, name, number, folder)
-    values = {"a": 71200, "b": 71900, "c": 71800}
-    for minute, (name, number) in enumerate(NODES.items()):
-        line = f"boiler,site=north temp={values[name]}i {minute * 60}000000000\n"
-        report = ask(8110 + number, line.encode())
-        check(f"a line to {name}", report, b"points 1 samples 1 refused 0\n")
-    pull_until_alike()
-    for name, number in NODES.items():
-        check(f"{name} answers", ask(8120 + number, FETCH), ALL)
-    # One more round of c saves what it has pulled by now.
-    ask(8113, b"")
-    ask(8113, b"")
-    running["c"].kill()
-    running["c"].wait()
-    running["c"] = start(program, "c", 4, folder, load=True)
-    check("c answers again", ask(8123, FETCH), ALL)
+def answer(node, series, function, last):
+    target = f"/fetch?cf={function}&resolution=60&start={BEGIN // 60 * 60}&end={last}&key=m%2Cs%3Ds{series}%20v"
+    status, text, _ = node.ask("GET", target)
+    if status != 200:
+        return None
+    records = [line.rsplit(",", 2) for line in text.decode().splitlines() if line]
+    return {int(second): value for _, second, value in records if value != "U"}
+
+
+def wanted(rows, function):
+    pick = {"MIN": lambda it: min(v for _, v in it), "MAX": lambda it: max(v for _, v in it),
+            "LAST": lambda it: max(it)[1]}[function]
+    return {row: str(pick(found)) for row, found in rows.items()}
+
+
+def are_alike(nodes, rows, last):
+    """The first series and node that answer otherwise than the model, or none."""
+    for series in range(SERIES):
+        for function in ("LAST", "MIN", "MAX"):
+            want = wanted(rows.get(series, {}), function)
+            for name, node in zip(NAMES, nodes):
+                got = answer(node, series, function, last)
+                if got != want:
+                    missing = sum(got is None or got.get(row) != value for row, value in want.items())
+                    return f"{name}: series {series}, {function}: {missing} of {len(want)} rows"
+    return None
+
+
+def disturb(nodes, senders, seconds, seed):
+    """Kills nodes, and stops one for half of the time."""
+    dice = random.Random(seed)
+    until = time.monotonic() + seconds
+    stopped = nodes[dice.randrange(3)]
+    time.sleep(seconds / 4)
+    stopped.is_stopped = True
+    stopped.process.send_signal(signal.SIGSTOP)
+    middle = time.monotonic() + seconds / 2
+    slowest, kills = 0, 0
+    while time.monotonic() < until:
+        if stopped.is_stopped and time.monotonic() > middle:
+            stopped.process.send_signal(signal.SIGCONT)
+            stopped.is_stopped = False
+        others = [it for it in nodes if not it.is_stopped]
+        for node in others:
+            slowest = max(slowest, node.ask("GET", "/fetch?cf=LAST&resolution=60&last=600&key=m%2Cs%3Ds1%20v")[2])
+        if not stopped.is_stopped and dice.random() < 0.2:
+            dice.choice(others).restart()
+            kills += 1
+        time.sleep(0.5)
+    if stopped.is_stopped:
+        stopped.process.send_signal(signal.SIGCONT)
+        stopped.is_stopped = False
+    print(f"killed {kills} times; the slowest fetch took {slowest:.3f} s")
+    if slowest > LONGEST:
+        sys.exit(f"a fetch took more than {LONGEST} s")
+
+
+def run(program, folder, seconds, seed, nodes):
+    ports, between = free_ports(3), free_ports(6)
+    pairs = [(i, j) for i in range(3) for j in range(3) if i != j]
+    proxies = [Proxy(port, ports[j], seed + place) for place, ((_, j), port) in enumerate(zip(pairs, between))]
+    for place in range(3):
+        peers = [port for (i, _), port in zip(pairs, between) if i == place]
+        nodes.append(Node(program, folder, place, ports[place], peers))
+    senders = [Sender(node, place, seed + place) for place, node in enumerate(nodes)]
+    for sender in senders:
+        sender.start()
+    disturb(nodes, senders, seconds, seed)
+    for sender in senders:
+        sender.is_over = True
+    for sender in senders:
+        sender.join()
+    for proxy in proxies:
+        proxy.is_bad = False
+    samples = [it for sender in senders for it in sender.samples]
+    print(f"{len(samples)} samples acknowledged, {sum(it.again for it in senders)} times sent again")
+    last = max(it[1] for it in samples) // 60 * 60 + 60
+    rows, began, wrong = expected(samples), time.monotonic(), "nothing was asked"
+    while wrong and time.monotonic() < began + PATIENCE:
+        wrong = are_alike(nodes, rows, last)
+        time.sleep(0.5)
+    if wrong:
+        sys.exit(f"not alike after {PATIENCE} s: {wrong}")
+    print(f"all three answer each series as the model, after {time.monotonic() - began:.1f} s")
 
 
 def main():
-    program = pathlib.Path(sys.argv[1]).resolve()
-    running = {}
+    program = str(pathlib.Path(sys.argv[1]).resolve())
+    seconds = int(sys.argv[2]) if len(sys.argv) > 2 else 120
+    seed = int(sys.argv[3]) if len(sys.argv) > 3 else 1
+    nodes = []
     with tempfile.TemporaryDirectory() as folder:
         try:
-            run(program, pathlib.Path(folder), running)
+            run(program, pathlib.Path(folder), seconds, seed, nodes)
         finally:
-            for node in running.values():
-                node.kill()
-                node.wait()
+            for node in nodes:
+                node.process.kill()
+                node.process.wait()
 
 
 if __name__ == "__main__":

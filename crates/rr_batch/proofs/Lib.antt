@@ -1,4 +1,5 @@
 pub mod OriginLemmas
 pub mod RefusalLemmas
 pub mod RefusalTextLemmas
+pub mod PeerLemmas
 pub mod PieceLemmas

@@ -2,4 +2,5 @@ pub mod Answers
 pub mod Batches
 pub mod Refusals
 pub mod Taking
+pub mod Peers
 pub mod Pieces

@@ -11,6 +11,9 @@
 //! [`commit_batch`] turns into an answer once it is known whether the batch is in the journal, and
 //! synced. So one sync serves all that waited, and nothing is acknowledged that a crash could lose.
 //! Lines that are refused are counted by the names of their faults: [`RefusalCounts`].
+//!
+//! The cells that a peer brings are joined by [`join_cells`] and committed with the next batch, and how
+//! far its journal was read is recorded behind them by [`commit_cursor`].
 #![tactic(auto)]
 
 mod answering;
@@ -18,6 +21,7 @@ mod committing;
 mod fault;
 pub mod laws;
 mod origin;
+mod peer;
 mod pending;
 mod refusals;
 mod writer;
@@ -25,6 +29,7 @@ mod writer;
 pub use committing::{Answers, commit_batch};
 pub use fault::BatchFault;
 pub use origin::commit_origin;
+pub use peer::{commit_cursor, join_cells};
 pub use pending::{Pending, Waiting};
 pub use refusals::{MAX_NAMES, RefusalCounts};
 pub use writer::{MAX_REFUSALS, Writer};

@@ -10,7 +10,7 @@ use rr_schema::Origin;
 use std::alloc::{AllocError, Global};
 
 /// The one fault that so short a record can meet.
-fn out_of_memory(fault: JournalFault) -> AllocError
+pub(crate) fn out_of_memory(fault: JournalFault) -> AllocError
     requires { fault ≡ JournalFault.Memory }
 {
     let _ = fault;

@@ -37,11 +37,12 @@ reason_of status =
     else (if status == 400 then codes "Bad Request"
     else (if status == 404 then codes "Not Found"
     else (if status == 405 then codes "Method Not Allowed"
+    else (if status == 409 then codes "Conflict"
     else (if status == 410 then codes "Gone"
     else (if status == 415 then codes "Unsupported Media Type"
     else (if status == 500 then codes "Internal Server Error"
     else (if status == 501 then codes "Not Implemented"
-    else (if status == 503 then codes "Service Unavailable" else [])))))))))
+    else (if status == 503 then codes "Service Unavailable" else []))))))))))
 
 abbrev pub close_field : Header
 close_field = (codes "connection", codes "close")

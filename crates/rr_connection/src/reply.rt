@@ -58,6 +58,7 @@ pub(crate) fn reason_of(status: u16) -> &'static [u8]
         400 => b"Bad Request",
         404 => b"Not Found",
         405 => b"Method Not Allowed",
+        409 => b"Conflict",
         410 => b"Gone",
         415 => b"Unsupported Media Type",
         500 => b"Internal Server Error",

@@ -123,6 +123,11 @@ impl<'a, R: Files> DataDirectory<'a, R> {
         DataDirectory { rt, path }
     }
 
+    /// The runtime through which it is read and written.
+    pub(crate) fn runtime(&self) -> &'a R {
+        self.rt
+    }
+
     /// The path.
     pub fn path(&self) -> &'a str {
         self.path

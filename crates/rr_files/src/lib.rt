@@ -9,7 +9,8 @@
 //! ```text
 //! DataDirectory::open ── lock ──> names, open, len ──> recover
 //!        ├── open_journal, create_journal ──> JournalFile ── append, sync, cut_back
-//!        └── create_checkpoint ── a writer ──> finish_checkpoint, or abandon_checkpoint
+//!        ├── create_checkpoint ── a writer ──> finish_checkpoint, or abandon_checkpoint
+//!        └── read_at ──> bytes of a file, for a peer
 //! ```
 //!
 //! What survives a crash rests on four rules, which no contract can state: what is in a file survives
@@ -24,6 +25,7 @@ mod fault;
 mod folder;
 mod journal_file;
 mod lock;
+mod reading;
 
 pub use directory::{DataDirectory, DirectoryLock};
 pub use fault::OpenFault;

@@ -13,6 +13,8 @@ use std::time::{Clock, Duration};
 pub(crate) struct Waiting {
     items: VecDeque<Item>,
     bytes: usize,
+    /// Whether whoever waits is to look up, though no item came.
+    is_nudged: bool,
 }
 
 impl Waiting {
@@ -23,6 +25,7 @@ impl Waiting {
         Ok(Waiting {
             items: VecDeque::with_capacity(alloc, room)?,
             bytes: 0,
+            is_nudged: false,
         })
     }
 
@@ -122,13 +125,20 @@ impl Queue {
         self.waiting.lock(rt).load()
     }
 
-    /// Waits for the first item, for at most so long, and takes it.
+    /// Has whoever waits for an item look up, once, though none came.
+    pub fn nudge<R: Wait>(&self, rt: &R) {
+        self.waiting.lock(rt).is_nudged = true;
+        self.changed.notify_one();
+    }
+
+    /// Waits for the first item, for at most so long or until it is nudged, and takes it.
     pub fn take<R: Wait + Clock>(&self, rt: &R, timeout: Duration) -> Option<Item> {
         let (mut waiting, _timed_out) = self
             .changed
             .wait_timeout_while(rt, self.waiting.lock(rt), timeout, |waiting| {
-                waiting.items.is_empty()
+                waiting.items.is_empty() && !waiting.is_nudged
             });
+        waiting.is_nudged = false;
         waiting.take()
     }
 }

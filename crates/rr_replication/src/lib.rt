@@ -7,6 +7,11 @@
 //! be joined. Where the part's end cuts a record, the peer asks again from that record on. Bytes
 //! and numbers come in, and values go out; there are no sockets here, and no files.
 //!
+//! A peer asks by HTTP, over a [`PeerConnection`], and [`Following`] says what it asks for next and
+//! takes what is answered: first where the journal is, then the journal from where it was read up to
+//! on, or the newest checkpoint where the journal isn't there any more or is another history, and then
+//! the journal behind that.
+//!
 //! ```text
 //! files, end, from ── part_from ──> Bytes { file, skip, len } | Nothing | Gone
 //!                                     └── bytes ──┐
@@ -22,12 +27,22 @@
 //! records say (`Laws.antt`).
 #![tactic(auto)]
 
+mod answer;
 mod cells;
+mod connection;
 mod fault;
+mod following;
 pub mod laws;
 mod part;
+mod peer_fault;
+mod position;
 mod records;
 
+pub use answer::{END_FIELD, ID_FIELD, PeerAnswer};
+pub use connection::PeerConnection;
 pub use fault::PartFault;
+pub use following::{Following, Next};
 pub use part::{MAX_PART, Part, part_from};
+pub use peer_fault::PeerFault;
+pub use position::Position;
 pub use records::read_part;

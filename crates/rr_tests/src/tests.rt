@@ -14,6 +14,7 @@ mod faults;
 mod fetches;
 mod file_shelf;
 mod finished;
+mod following;
 mod gates;
 mod halts;
 mod journal;

@@ -4,7 +4,7 @@ use Rattle.std.specs.Str.{bytes_eq}
 use Rattle.rr_web.specs.declared.ask.Ask.{Ask}
 use Rattle.rr_web.specs.declared.reply.Kind.{Kind}
 use Rattle.rr_web.specs.declared.reply.Kind.TheVariants as kind
-use Rattle.rr_web.specs.declared.ask.Ask.TheVariants.{Write, Fetch, Series, Metrics, Page, Script, Style, Health, Ping, OnlyPost, OnlyGet, Nothing}
+use Rattle.rr_web.specs.declared.ask.Ask.TheVariants.{Write, Fetch, Series, Metrics, Journal, Checkpoint, Page, Script, Style, Health, Ping, OnlyPost, OnlyGet, Nothing}
 
 -- what is read at a path
 abbrev pub read_at : List ℕ → Ask
@@ -12,11 +12,13 @@ read_at path =
     if bytes_eq path (codes "/fetch") then Fetch
     else (if bytes_eq path (codes "/series") then Series
     else (if bytes_eq path (codes "/metrics") then Metrics
+    else (if bytes_eq path (codes "/journal") then Journal
+    else (if bytes_eq path (codes "/checkpoint") then Checkpoint
     else (if bytes_eq path (codes "/") then Page
     else (if bytes_eq path (codes "/rr.js") then Script
     else (if bytes_eq path (codes "/rr.css") then Style
     else (if bytes_eq path (codes "/health") then Health
-    else (if bytes_eq path (codes "/ping") then Ping else Nothing)))))))
+    else (if bytes_eq path (codes "/ping") then Ping else Nothing)))))))))
 
 -- where lines are taken: the paths of InfluxDB's two versions
 abbrev pub is_of_lines : List ℕ → Bool

@@ -1,5 +1,6 @@
 pub mod Ask
 pub mod Query
+pub mod Parts
 pub mod Precision
 pub mod Reply
 pub mod Fetches
@@ -12,6 +13,8 @@ pub mod Target
 pub mod Refusals
 pub mod Response
 pub mod Family
+pub mod Numbers
+pub mod PeerMetrics
 pub mod NodeMetrics
 pub mod Fixed
 pub mod Listing

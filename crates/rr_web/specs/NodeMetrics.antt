@@ -6,13 +6,14 @@ use Rattle.rr_schema.specs.Schema.{Layout}
 use Rattle.rr_web.specs.declared.family.Amount.{Amount}
 use Rattle.rr_web.specs.declared.family.Amount.TheVariants.{Whole, Thousandths}
 use Rattle.rr_web.specs.declared.family.Family.{Family}
-use Rattle.rr_web.specs.declared.family.FamilyKind.{FamilyKind}
 use Rattle.rr_web.specs.declared.family.FamilyKind.TheVariants.{Counter, Gauge}
 use Rattle.rr_web.specs.declared.node_metrics.AnswerCounts.{AnswerCounts}
 use Rattle.rr_web.specs.declared.node_metrics.ArchiveRows.{ArchiveRows}
 use Rattle.rr_web.specs.declared.node_metrics.NodeMetrics.{NodeMetrics}
 use Rattle.rr_web.specs.declared.node_metrics.RefusedLines.{RefusedLines}
-use Rattle.rr_web.specs.Family.{SampleView, family_text, family_view, sample_view}
+use Rattle.rr_web.specs.Family.{SampleView, family_text, family_view}
+use Rattle.rr_web.specs.Numbers.{Numbers, family_of, numbers_in}
+use Rattle.rr_web.specs.PeerMetrics.{peer_families}
 
 -- the rows of an archive whose steps have so many seconds
 abbrev pub rows_of : ℕ → ArchiveSpec → ArchiveRows
@@ -21,18 +22,6 @@ rows_of step archive = record { seconds = step * archive.steps; rows = archive.r
 -- the rows of each archive
 abbrev pub archive_rows : Layout → List ArchiveRows
 archive_rows s = map (rows_of s.step) s.archives
-
--- what a family says beside its help
-pub record Numbers : Type 0 where
-  pub kind : FamilyKind
-  pub name : List ℕ
-  pub samples : List SampleView
-
-abbrev pub family_of : FamilyKind → List ℕ → List SampleView → Numbers
-family_of kind name samples = record { kind = kind; name = name; samples = samples }
-
-abbrev pub numbers_in : Family → Numbers
-numbers_in f = family_of f.kind f.name.now (map sample_view f.samples.items)
 
 -- one sample with no label
 abbrev pub single : Amount → List SampleView
@@ -115,7 +104,7 @@ checkpoint_families m =
 abbrev pub metrics_of : NodeMetrics → List Numbers
 metrics_of m =
     about_families m ++ store_families m ++ connection_families m ++ line_families m ++ journal_families m
-    ++ checkpoint_families m
+    ++ checkpoint_families m ++ peer_families m.peers.items
 
 abbrev pub families_text : List Family → List ℕ
 families_text families = flat_map (λ f. family_text (family_view f)) families

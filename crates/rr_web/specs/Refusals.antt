@@ -21,6 +21,8 @@ error_reply status why = reply_of status Json (codes "{\"error\":\"" ++ why ++ c
 -- the refusal of what is asked: of another path, or by another method
 abbrev pub refusal_of : Ask → ReplyView
 refusal_of ask.Nothing = error_reply status.NotFound (codes "there is no such path")
+refusal_of ask.Journal = error_reply status.NotFound (codes "there is no such path")
+refusal_of ask.Checkpoint = error_reply status.NotFound (codes "there is no such path")
 refusal_of ask.OnlyGet = error_reply status.OnlyGet (codes "it is read by GET")
 refusal_of ask.Write = error_reply status.OnlyGet (codes "it is read by GET")
 refusal_of other = error_reply status.OnlyPost (codes "it is written by POST")

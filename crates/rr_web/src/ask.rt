@@ -14,6 +14,10 @@ pub enum Ask {
     Series,
     /// The numbers of the node.
     Metrics,
+    /// Where the journal is, or bytes of it, as a peer asks.
+    Journal,
+    /// Bytes of a checkpoint, as a peer asks.
+    Checkpoint,
     /// The page, its script or its style.
     Page,
     Script,
@@ -40,6 +44,10 @@ fn read_at(path: &[u8]) -> Ask
         Ask::Series
     } else if path == b"/metrics".as_slice() {
         Ask::Metrics
+    } else if path == b"/journal".as_slice() {
+        Ask::Journal
+    } else if path == b"/checkpoint".as_slice() {
+        Ask::Checkpoint
     } else if path == b"/".as_slice() {
         Ask::Page
     } else if path == b"/rr.js".as_slice() {

@@ -5,6 +5,7 @@
 //! method and path ── asked_by ──> Ask
 //! request that reads ── read_reply, by a reader ──> Reply: a status, a kind of text, and the text
 //!     the rows of a fetch, CSV or JSON; the keys of series, a line each; numbers, health; a page
+//! request of a peer ── part_query ──> what it asks for; what it is given ── part_response ──> a response
 //! request that writes ── refused_write ──> a Reply, or none: then its lines are to be taken
 //! refusals and report of lines ── write_reply ──> Reply
 //! numbers of a node ── metrics_text ──> the text form of Prometheus
@@ -26,6 +27,8 @@ pub mod laws;
 mod listing;
 mod node_metrics;
 mod page;
+mod parts;
+mod peer_metrics;
 mod precision;
 mod query;
 mod read;
@@ -45,6 +48,8 @@ pub use ask::{Ask, asked_by};
 pub use node_metrics::{
     AnswerCounts, ArchiveRows, NodeMetrics, RefusedLines, archive_rows, metrics_text,
 };
+pub use parts::{Given, JournalPlace, PartQuery, part_query, part_response};
+pub use peer_metrics::PeerNumbers;
 pub use read::read_reply;
 pub use refusals::refused_write;
 pub use reply::Reply;

@@ -3,11 +3,13 @@
 ghost use Rattle.std.specs.Prelude.{◌≡◌, ◌∷◌, ◌++◌, [], IfOk, OnOk, map};
 ghost use Rattle.rr_web.specs.Family.{sample_view};
 ghost use Rattle.rr_web.specs.NodeMetrics.{IsTextOf, about_families, archive_rows, checkpoint_families};
-ghost use Rattle.rr_web.specs.NodeMetrics.{connection_families, counter, families_text, family_of, gauge};
-ghost use Rattle.rr_web.specs.NodeMetrics.{journal_families, line_families, metrics_of, numbers_in, optional};
+ghost use Rattle.rr_web.specs.NodeMetrics.{connection_families, counter, families_text, gauge};
+ghost use Rattle.rr_web.specs.NodeMetrics.{journal_families, line_families, metrics_of, optional};
 ghost use Rattle.rr_web.specs.NodeMetrics.{rows_of, store_families};
+ghost use Rattle.rr_web.specs.Numbers.{family_of, numbers_in};
 
 use crate::family::{Amount, Family, FamilyKind, Sample, push_family};
+use crate::peer_metrics::{PeerNumbers, push_peers};
 use crate::samples::{
     answer_samples, archive_samples, info_samples, refused_samples, samples_of, seconds, single,
     whole,
@@ -85,6 +87,8 @@ pub struct NodeMetrics {
     pub checkpoint_bytes: Option<u64>,
     /// The milliseconds since then.
     pub checkpoint_age: Option<u64>,
+    /// How its peers are followed.
+    pub peers: Vec<PeerNumbers>,
 }
 
 /// The rows of an archive whose steps have so many seconds.
@@ -110,7 +114,7 @@ pub fn archive_rows(alloc: Global, schema: &Schema) -> Result<Vec<ArchiveRows>, 
 }
 
 /// Adds a family.
-fn push(
+pub(crate) fn push(
     families: &mut Vec<Family>,
     kind: FamilyKind,
     name: &'static [u8],
@@ -334,6 +338,7 @@ fn families_of(alloc: Global, metrics: &NodeMetrics) -> Result<Vec<Family>, Allo
     push_lines(alloc, &mut families, metrics)?;
     push_journal(alloc, &mut families, metrics)?;
     push_checkpoint(alloc, &mut families, metrics)?;
+    push_peers(alloc, &mut families, &metrics.peers)?;
     Ok(families)
 }
 

@@ -38,7 +38,9 @@ pub(crate) fn refusal_of(alloc: Global, ask: Ask) -> Result<Reply, AllocError>
     ensures { IfOk result (λ reply. reply_view reply ≡ refusal_of ask) }
 {
     match ask {
-        Ask::Nothing => error_reply(alloc, Status::NotFound, b"there is no such path"),
+        Ask::Nothing | Ask::Journal | Ask::Checkpoint => {
+            error_reply(alloc, Status::NotFound, b"there is no such path")
+        }
         Ask::OnlyGet | Ask::Write => error_reply(alloc, Status::OnlyGet, b"it is read by GET"),
         _ => error_reply(alloc, Status::OnlyPost, b"it is written by POST"),
     }

@@ -11,7 +11,7 @@ use itoa::Buffer;
 use std::alloc::{AllocError, Global};
 
 /// A number in decimal.
-fn decimal(alloc: Global, number: u64) -> Result<Vec<u8>, AllocError>
+pub(crate) fn decimal(alloc: Global, number: u64) -> Result<Vec<u8>, AllocError>
     ensures { IfOk result (λ text. text.items ≡ decimal number) }
 {
     let mut buffer = Buffer::new();

@@ -1,6 +1,7 @@
 //! Those who answer requests that read.
 
 use crate::clock::SystemClock;
+use crate::node::giving::{Giver, JournalReading};
 use crate::node::shared::{Answered, Shared};
 use rr_command_line::PRODUCT;
 use rr_connection::{Reply, Request};
@@ -11,8 +12,8 @@ use rr_reactor::{Answer, Item, Outcome, Queues, Work};
 use rr_web::{Ask, asked_by, read_reply, response_of, target_parts};
 use std::alloc::{AllocError, Global};
 use std::sync::Wait;
-use std::time;
 use std::time::Duration;
+use std::{io, time};
 
 /// Why a node can acknowledge nothing.
 const FAILURE: &[u8] = b"the journal can't be written";
@@ -23,6 +24,8 @@ pub(crate) struct Handler {
     pub(crate) alloc: Global,
     pub(crate) reader: Reader<PackedArchive>,
     pub(crate) shared: Shared,
+    /// What peers are given.
+    pub(crate) giver: Giver,
 }
 
 impl Handler {
@@ -36,13 +39,30 @@ impl Handler {
     }
 
     /// The answer to a request.
-    fn reply<T: Wait + time::Clock>(
+    fn reply<T: JournalReading + Eprint + Wait + time::Clock>(
         &mut self,
         rt: &T,
         request: &Request,
+    ) -> io::Result<Reply> {
+        let (path, query) = target_parts(&request.target);
+        let ask = asked_by(&request.method, path);
+        match ask {
+            Ask::Journal | Ask::Checkpoint => {
+                self.giver
+                    .answer(rt, query, ask == Ask::Journal, &self.shared)
+            }
+            _ => Ok(self.read(rt, request, ask)?),
+        }
+    }
+
+    /// The answer to a request that reads what the reader has seen.
+    fn read<T: Wait + time::Clock>(
+        &mut self,
+        rt: &T,
+        request: &Request,
+        ask: Ask,
     ) -> Result<Reply, AllocError> {
-        let (path, _) = target_parts(&request.target);
-        let metrics = match asked_by(&request.method, path) {
+        let metrics = match ask {
             Ask::Metrics => self.shared.metrics.read(rt)?,
             _ => Vec::new(self.alloc),
         };
@@ -61,8 +81,12 @@ impl Handler {
         response_of(self.alloc, reply, PRODUCT)
     }
 
-    /// What comes of an item. Where memory runs out, its connection is closed.
-    fn outcome<T: Wait + time::Clock>(&mut self, rt: &T, work: &Work) -> Outcome {
+    /// What comes of an item. Where memory runs out or a file can't be read, its connection is closed.
+    fn outcome<T: JournalReading + Eprint + Wait + time::Clock>(
+        &mut self,
+        rt: &T,
+        work: &Work,
+    ) -> Outcome {
         let Work::Request(request) = work else {
             return Outcome::Nothing;
         };
@@ -73,7 +97,7 @@ impl Handler {
     }
 
     /// Answers an item.
-    fn answer<T: Wait + time::Clock>(&mut self, rt: &T, item: &Item) {
+    fn answer<T: JournalReading + Eprint + Wait + time::Clock>(&mut self, rt: &T, item: &Item) {
         let outcome = self.outcome(rt, &item.work);
         let key = item.key;
         let answer = Answer { key, outcome };
@@ -84,7 +108,7 @@ impl Handler {
     }
 
     /// Answers what comes, until the node ends.
-    pub(crate) fn serve<T: Wait + time::Clock>(&mut self, rt: &T) {
+    pub(crate) fn serve<T: JournalReading + Eprint + Wait + time::Clock>(&mut self, rt: &T) {
         for _ in 0..u64::MAX {
             let queues: &Queues = &self.shared.queues;
             match queues.fetches.take(rt, Duration::from_secs(1)) {

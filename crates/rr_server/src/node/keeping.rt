@@ -1,6 +1,7 @@
 //! The keeper of a node: batches of writes, taken, committed and answered.
 
 use crate::files::tell;
+use crate::node::arrivals::Arrivals;
 use crate::node::logbook::Logbook;
 use crate::node::numbers::Numbers;
 use crate::node::shared::{Answered, Desired, Shared};
@@ -32,19 +33,21 @@ pub(crate) struct Keeping<F> {
     pub(crate) logbook: Logbook<F>,
     pub(crate) numbers: Numbers,
     pub(crate) shared: Shared,
+    pub(crate) arrivals: Arrivals,
     /// Whether what the keeper holds is in the journal.
     pub(crate) is_saved: bool,
 }
 
-/// The items that wait, but for what is beyond a batch; none where none came within a second.
+/// The items that wait, but for what is beyond a batch; none where none comes within a time.
 fn gather<R: Wait + time::Clock>(
     rt: &R,
     alloc: Global,
     queues: &Queues,
+    timeout: Duration,
 ) -> Result<Vec<Item>, AllocError> {
     let mut items = Vec::new(alloc);
     let mut bytes = 0usize;
-    let mut timeout = Duration::from_secs(1);
+    let mut timeout = timeout;
     for _ in 0..u64::MAX {
         if bytes >= BATCH {
             break;
@@ -137,18 +140,24 @@ impl<F: Write + Seek + OpenFile + Drop> Keeping<F> {
         }
     }
 
-    /// Records the origin of this start, and says whether that is saved. The file that has the first
-    /// record of it goes with the checkpoint that makes it needless, so the next file has it too.
-    fn record_origin(&mut self) -> bool {
+    /// Records the origin of this start and how far the journals of peers are read, and says whether
+    /// that is saved. The files that have the first records of these go with the checkpoint that makes
+    /// them needless, so the next file has them too.
+    fn record_again(&mut self) -> bool {
         let origin = self.numbers.origin();
         let logbook = &mut self.logbook;
-        commit_origin(
+        let is_recorded = commit_origin(
             self.alloc,
             origin,
             &mut logbook.journal,
             &mut logbook.cursor,
         )
         .is_ok()
+            && self
+                .arrivals
+                .record(&mut logbook.journal, &mut logbook.cursor);
+        self.shared.is_synced_to(logbook.cursor.offset);
+        is_recorded
     }
 
     /// Begins another file of the journal and asks for a checkpoint, where one is due. Where the file
@@ -169,7 +178,7 @@ impl<F: Write + Seek + OpenFile + Drop> Keeping<F> {
         match directory.create_journal(self.alloc, &begins, keeper.schema()) {
             Ok(journal) => {
                 self.logbook.journal = journal;
-                if self.record_origin() {
+                if self.record_again() {
                     self.logbook.is_asked = true;
                     let checkpoints: &Desired = &self.shared.checkpoints;
                     checkpoints.ask(rt, begins);
@@ -191,10 +200,24 @@ impl<F: Write + Seek + OpenFile + Drop> Keeping<F> {
         let batch = take_all(rt, self.alloc, &mut self.writer, items, keeper, clock)?;
         let Answers { answers, is_saved } = self.commit(rt, keeper, batch)?;
         self.is_saved = is_saved;
+        self.shared.is_synced_to(self.logbook.cursor.offset);
         self.tell_health(rt, path);
         answer_all(rt, &self.shared, answers);
         self.ask_for_checkpoint(rt, path, keeper);
         Ok(())
+    }
+
+    /// Records how far the journals of peers are read, if all that is joined is saved.
+    fn settle<R: Wait>(&mut self, rt: &R) -> Result<(), BatchFault> {
+        if !self.is_saved {
+            return Ok(());
+        }
+        let logbook = &mut self.logbook;
+        let settled = self
+            .arrivals
+            .settle(rt, &mut logbook.journal, &mut logbook.cursor);
+        self.shared.is_synced_to(logbook.cursor.offset);
+        settled
     }
 
     /// Puts the numbers up as they stand, and then takes what waits, commits and answers it.
@@ -206,12 +229,27 @@ impl<F: Write + Seek + OpenFile + Drop> Keeping<F> {
         clock: &mut C,
     ) -> Result<(), BatchFault> {
         let offset = self.logbook.cursor.offset;
-        self.numbers
-            .post(rt, self.alloc, keeper, &self.writer, offset, &self.shared);
-        let items = gather(rt, self.alloc, &self.shared.queues)?;
-        if !items.is_empty() || !self.is_saved {
+        let (writer, arrivals) = (&self.writer, &self.arrivals);
+        self.numbers.post(
+            rt,
+            self.alloc,
+            keeper,
+            writer,
+            arrivals,
+            offset,
+            &self.shared,
+        );
+        let timeout = if self.arrivals.has_left() {
+            Duration::ZERO
+        } else {
+            Duration::from_secs(1)
+        };
+        let items = gather(rt, self.alloc, &self.shared.queues, timeout)?;
+        let has_more = self.arrivals.join(rt, keeper)?;
+        if has_more || !items.is_empty() || !self.is_saved {
             self.take(rt, path, keeper, clock, items)?;
         }
+        self.settle(rt)?;
         self.note_checkpoint(rt);
         Ok(())
     }

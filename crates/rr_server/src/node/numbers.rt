@@ -1,5 +1,6 @@
 //! The numbers of a node, for those who watch it.
 
+use crate::node::arrivals::Arrivals;
 use crate::node::shared::{Answered, Shared};
 use rr_batch::Writer;
 use rr_command_line::VERSION;
@@ -111,6 +112,7 @@ impl Numbers {
         alloc: Global,
         keeper: &Keeper<PackedArchive>,
         writer: &Writer,
+        arrivals: &Arrivals,
         offset: u64,
         shared: &Shared,
     ) -> Result<NodeMetrics, AllocError> {
@@ -149,6 +151,7 @@ impl Numbers {
                 Some((ended, _)) => Some(age(rt, ended)),
                 None => None,
             },
+            peers: arrivals.numbers(rt)?,
         })
     }
 
@@ -159,6 +162,7 @@ impl Numbers {
         alloc: Global,
         keeper: &Keeper<PackedArchive>,
         writer: &Writer,
+        arrivals: &Arrivals,
         offset: u64,
         shared: &Shared,
     ) {
@@ -168,7 +172,7 @@ impl Numbers {
         self.posted = Instant::now(rt).ok();
         self.count_cells(rt, keeper);
         // If there is no memory for them, the last ones stay.
-        if let Ok(metrics) = self.metrics(rt, alloc, keeper, writer, offset, shared)
+        if let Ok(metrics) = self.metrics(rt, alloc, keeper, writer, arrivals, offset, shared)
             && let Ok(text) = metrics_text(alloc, &metrics)
         {
             shared.metrics.put(rt, text);

@@ -3,67 +3,39 @@
 ghost use Rattle.std.specs.Thread.{IsSync};
 
 use crate::clock::SystemClock;
-use crate::files::{read_node_config, tell};
+use crate::files::read_node_config;
 use crate::greeting::node_greeting;
-use crate::node::checkpoints::{Checkpointing, Checkpoints};
-use crate::node::handler::Handler;
+use crate::node::arrivals::Arrivals;
+use crate::node::checkpoints::Checkpointing;
+use crate::node::giving::JournalReading;
 use crate::node::keeping::Keeping;
 use crate::node::listening::listen;
+use crate::node::logbook::Logbook;
 use crate::node::numbers::Numbers;
+use crate::node::peer::PeerCalling;
 use crate::node::shared::Shared;
 use crate::node::start::{Started, start};
-use crate::node::worker::{Worker, Workers};
+use crate::node::threads::{Served, links_of};
+use crate::node::worker::Workers;
 use crate::server::OUT_OF_MEMORY;
 use rr_batch::Writer;
 use rr_config::NodeConfig;
 use rr_desk::{Keeper, Reader, open};
 use rr_files::TryLock;
 use rr_host::Clock;
+use rr_journal::Cursor;
 use rr_packed::PackedArchive;
 use rr_process::Ending;
-use rr_reactor::{Queues, Reactor};
+use rr_reactor::Reactor;
 use rr_replica::Replica;
-use std::alloc::{AllocError, Global};
+use rr_schema::Origin;
+use std::alloc::AllocError;
 use std::net::Net;
 use std::random::RandomSource;
 use std::rt::Files;
-use std::sync::{Arc, Wait};
+use std::sync::Wait;
 use std::thread::{Threads, join_mut};
 use std::time;
-
-/// The workers of a node: its reactor, a reader of each thread, and the first reader for checkpoints.
-fn workers(
-    alloc: Global,
-    reactor: Reactor,
-    readers: Vec<Reader<PackedArchive>>,
-    shared: &Shared,
-    path: &str,
-) -> Result<Workers, AllocError> {
-    let mut workers = Vec::new(alloc);
-    workers.push(Worker::Reactor(reactor))?;
-    for reader in readers {
-        let shared = shared.share()?;
-        let worker = if workers.len() == 1 {
-            Worker::Checkpoints(Checkpoints {
-                alloc,
-                reader,
-                shared,
-                path: String::from_str(alloc, path)?,
-            })
-        } else {
-            Worker::Handler(Handler {
-                alloc,
-                reader,
-                shared,
-            })
-        };
-        workers.push(worker)?;
-    }
-    Ok(Workers {
-        workers,
-        queues: Arc::try_clone(&shared.queues)?,
-    })
-}
 
 /// Says with what a node starts, unless it is to be quiet.
 fn greet(rt: &(impl AllocGlobal + Eprint), config: &NodeConfig, replica: &Replica<PackedArchive>) {
@@ -84,21 +56,91 @@ fn serve_all<C: Clock, R>(
     clock: &mut C,
     keeping: &mut Keeping<R::File>,
     workers: &mut Workers,
-    queues: &Queues,
+    shared: &Shared,
 ) -> Ending
 where
-    R: Files + Checkpointing + Eprint + Threads + Wait + time::Clock + Sync,
+    R: Files
+        + Checkpointing
+        + JournalReading
+        + PeerCalling
+        + Eprint
+        + Threads
+        + Wait
+        + time::Clock
+        + Sync,
 {
     let mut working = || -> ()
         requires { IsSync R.row }
     { workers.work(rt) };
     let mut keep = || -> Ending {
         let ending = keeping.serve(rt, path, keeper, clock);
-        queues.halt();
+        shared.end();
         ending
     };
     let (_, ending) = join_mut(rt, &mut working, &mut keep);
     ending
+}
+
+/// Serves with a keeper a node that has started, until a thread ends.
+fn serve_keeper<R>(
+    rt: &R,
+    config: &NodeConfig,
+    path: &str,
+    origin: Origin,
+    logbook: Logbook<R::File>,
+    cursors: Vec<Cursor>,
+    reactor: Reactor,
+    keeper: &mut Keeper<PackedArchive>,
+    readers: Vec<Reader<PackedArchive>>,
+) -> Result<Ending, AllocError>
+where
+    R: AllocGlobal
+        + Files
+        + Checkpointing
+        + JournalReading
+        + PeerCalling
+        + Eprint
+        + Threads
+        + Wait
+        + time::Clock
+        + Sync,
+{
+    let alloc = rt.alloc();
+    let Ok(queues) = reactor.queues() else {
+        return Err(AllocError);
+    };
+    let shared = Shared::new(alloc, queues, logbook.cursor.offset)?;
+    let links = links_of(alloc, rt, config)?;
+    let served = Served {
+        alloc,
+        path,
+        schema: &config.schema,
+        cursor: &logbook.cursor,
+        shared: &shared,
+    };
+    let mut workers = Workers {
+        workers: served.workers(reactor, readers, &links, &cursors)?,
+        shared: shared.share()?,
+    };
+    let mut keeping = Keeping {
+        alloc,
+        writer: Writer::new(alloc, config.precision, config.lead),
+        logbook,
+        numbers: Numbers::new(origin),
+        shared: shared.share()?,
+        arrivals: Arrivals::new(alloc, links, cursors)?,
+        is_saved: true,
+    };
+    let mut clock = SystemClock::new(rt);
+    Ok(serve_all(
+        rt,
+        path,
+        keeper,
+        &mut clock,
+        &mut keeping,
+        &mut workers,
+        &shared,
+    ))
 }
 
 /// Opens a desk over the replica of a node that has started, and serves until a thread ends.
@@ -110,49 +152,42 @@ fn serve_started<R>(
     reactor: Reactor,
 ) -> Result<Ending, AllocError>
 where
-    R: AllocGlobal + Files + Checkpointing + Eprint + Threads + Wait + time::Clock + Sync,
+    R: AllocGlobal
+        + Files
+        + Checkpointing
+        + JournalReading
+        + PeerCalling
+        + Eprint
+        + Threads
+        + Wait
+        + time::Clock
+        + Sync,
 {
-    let alloc = rt.alloc();
-    let Ok(queues) = reactor.queues() else {
-        return Err(AllocError);
-    };
-    let shared = Shared::new(alloc, Arc::try_clone(&queues)?)?;
     let Started {
         lock,
         replica,
         logbook,
         origin,
+        cursors,
     } = started;
     let readers = (config.readers as usize).saturating_add(1);
-    let Ok((mut keeper, readers)) = open(alloc, rt, replica, readers) else {
+    let Ok((mut keeper, readers)) = open(rt.alloc(), rt, replica, readers) else {
         return Err(AllocError);
     };
-    let ending = match workers(alloc, reactor, readers, &shared, path) {
-        Ok(mut workers) => {
-            let mut keeping = Keeping {
-                alloc,
-                writer: Writer::new(alloc, config.precision, config.lead),
-                logbook,
-                numbers: Numbers::new(origin),
-                shared,
-                is_saved: true,
-            };
-            let mut clock = SystemClock::new(rt);
-            serve_all(
-                rt,
-                path,
-                &mut keeper,
-                &mut clock,
-                &mut keeping,
-                &mut workers,
-                &queues,
-            )
-        }
-        Err(_) => OUT_OF_MEMORY,
-    };
+    let ending = serve_keeper(
+        rt,
+        config,
+        path,
+        origin,
+        logbook,
+        cursors,
+        reactor,
+        &mut keeper,
+        readers,
+    );
     keeper.close(rt);
     drop(lock);
-    Ok(ending)
+    ending
 }
 
 /// Serves as a node from a directory, which begins with a snapshot where one is named. Configuration,
@@ -168,6 +203,8 @@ where
     R: AllocGlobal
         + Files
         + Checkpointing
+        + JournalReading
+        + PeerCalling
         + Eprint
         + Net
         + time::Clock
@@ -177,15 +214,7 @@ where
         + Sync,
     R::File: TryLock,
 {
-    let file = config;
-    let config = read_node_config(rt, file)?;
-    if !config.peers.is_empty() {
-        tell(
-            rt,
-            file,
-            "peers: this node exchanges nothing with others yet",
-        );
-    }
+    let config = read_node_config(rt, config)?;
     let started = start(rt, &config, path, load)?;
     let reactor = listen(rt, &config)?;
     greet(rt, &config, &started.replica);

@@ -1,6 +1,6 @@
 //! What the threads of a node share.
 
-use crate::signals::{Flag, SharedText};
+use crate::signals::{Flag, HaltFlag, SharedText};
 use rr_journal::Cursor;
 use rr_reactor::{Answer, Outcome, Queues};
 use std::alloc::{AllocError, Global};
@@ -116,11 +116,21 @@ pub(crate) struct Shared {
     pub(crate) checkpoints: Arc<Desired>,
     /// How many series there are, as they were counted last.
     pub(crate) series: Arc<AtomicU64>,
+    /// The offset up to which the journal is synced.
+    pub(crate) journal_end: Arc<AtomicU64>,
+    /// Whether a peer with another schema has asked for the journal.
+    pub(crate) is_differing: Flag,
+    /// Raised where the node ends.
+    pub(crate) halt: HaltFlag,
 }
 
 impl Shared {
     /// What the threads of a node share whose reactor has these queues.
-    pub(crate) fn new(alloc: Global, queues: Arc<Queues>) -> Result<Shared, AllocError> {
+    pub(crate) fn new(
+        alloc: Global,
+        queues: Arc<Queues>,
+        journal_end: u64,
+    ) -> Result<Shared, AllocError> {
         let answered = Answered {
             done: AtomicU64::new(0),
             refused: AtomicU64::new(0),
@@ -133,7 +143,23 @@ impl Shared {
             answered: Arc::new(alloc, answered)?,
             checkpoints: Arc::new(alloc, Desired::new())?,
             series: Arc::new(alloc, AtomicU64::new(0))?,
+            journal_end: Arc::new(alloc, AtomicU64::new(journal_end))?,
+            is_differing: Flag::new(alloc)?,
+            halt: HaltFlag::new(alloc)?,
         })
+    }
+
+    /// Notes up to where the journal is synced, of which no more is given to peers.
+    pub(crate) fn is_synced_to(&self, offset: u64) {
+        let end: &AtomicU64 = &self.journal_end;
+        end.store(offset, Ordering::SeqCst);
+    }
+
+    /// Ends the node.
+    pub(crate) fn end(&self) {
+        self.halt.raise();
+        let queues: &Queues = &self.queues;
+        queues.halt();
     }
 
     /// The same, for one more thread.
@@ -145,6 +171,9 @@ impl Shared {
             answered: Arc::try_clone(&self.answered)?,
             checkpoints: Arc::try_clone(&self.checkpoints)?,
             series: Arc::try_clone(&self.series)?,
+            journal_end: Arc::try_clone(&self.journal_end)?,
+            is_differing: self.is_differing.share()?,
+            halt: self.halt.share()?,
         })
     }
 }

@@ -31,6 +31,8 @@ pub(crate) struct Started<F> {
     pub(crate) logbook: Logbook<F>,
     /// The origin of this start.
     pub(crate) origin: Origin,
+    /// How far the journals of peers were read, by their ids.
+    pub(crate) cursors: Vec<Cursor>,
 }
 
 /// The ending where a call of the system failed, which is told.
@@ -242,6 +244,7 @@ where
         Ok(opened) => opened,
         Err(error) => return Err(failed(rt, path, &error)),
     };
+    let Recovered { found, .. } = recovered;
     let alloc = rt.alloc();
     if commit_origin(alloc, origin, &mut journal, &mut cursor).is_err()
         || (load.is_some() && commit_replica(alloc, &replica, &mut journal, &mut cursor).is_err())
@@ -264,5 +267,6 @@ where
             is_asked: false,
         },
         origin,
+        cursors: found.cursors,
     })
 }

@@ -4,9 +4,12 @@ ghost use Rattle.std.specs.Thread.{IsSync};
 
 use crate::files::tell;
 use crate::node::checkpoints::{Checkpointing, Checkpoints};
+use crate::node::giving::JournalReading;
 use crate::node::handler::Handler;
-use rr_reactor::{Queues, Reactor};
-use std::sync::{Arc, Wait};
+use crate::node::peer::{Peer, PeerCalling};
+use crate::node::shared::Shared;
+use rr_reactor::Reactor;
+use std::sync::Wait;
 use std::thread::{Threads, for_each_mut};
 use std::time::Clock;
 
@@ -19,11 +22,16 @@ pub(crate) enum Worker {
     Handler(Handler),
     /// Writes checkpoints.
     Checkpoints(Checkpoints),
+    /// Follows a peer.
+    Peer(Peer),
 }
 
 impl Worker {
     /// Works until the node ends.
-    fn work<R: Checkpointing + Eprint + Wait + Clock>(&mut self, rt: &R) {
+    fn work<R>(&mut self, rt: &R)
+    where
+        R: Checkpointing + JournalReading + PeerCalling + Eprint + Wait + Clock,
+    {
         match self {
             Worker::Reactor(reactor) => {
                 if let Err(error) = reactor.serve(rt) {
@@ -32,16 +40,16 @@ impl Worker {
             }
             Worker::Handler(handler) => handler.serve(rt),
             Worker::Checkpoints(checkpoints) => checkpoints.serve(rt),
+            Worker::Peer(peer) => peer.serve(rt),
         }
     }
 }
 
 /// Has each worker work on a thread of its own. Once one ends, all do.
-fn work_all<R: Checkpointing + Eprint + Threads + Wait + Clock + Sync>(
-    rt: &R,
-    workers: &mut [Worker],
-    queues: &Queues,
-) {
+fn work_all<R>(rt: &R, workers: &mut [Worker], shared: &Shared)
+where
+    R: Checkpointing + JournalReading + PeerCalling + Eprint + Threads + Wait + Clock + Sync,
+{
     if workers.is_empty() {
         return;
     }
@@ -54,7 +62,7 @@ fn work_all<R: Checkpointing + Eprint + Threads + Wait + Clock + Sync>(
             requires { IsSync R.row }
         {
             worker.work(rt);
-            queues.halt();
+            shared.end();
         },
     );
 }
@@ -63,16 +71,16 @@ fn work_all<R: Checkpointing + Eprint + Threads + Wait + Clock + Sync>(
 #[derive(Drop)]
 pub(crate) struct Workers {
     pub(crate) workers: Vec<Worker>,
-    /// Halted where one of them ends.
-    pub(crate) queues: Arc<Queues>,
+    /// Ended where one of them ends.
+    pub(crate) shared: Shared,
 }
 
 impl Workers {
     /// Has each work on a thread of its own, until one ends or they are halted.
-    pub(crate) fn work<R: Checkpointing + Eprint + Threads + Wait + Clock + Sync>(
-        &mut self,
-        rt: &R,
-    ) {
-        work_all(rt, self.workers.as_mut_slice(), &self.queues);
+    pub(crate) fn work<R>(&mut self, rt: &R)
+    where
+        R: Checkpointing + JournalReading + PeerCalling + Eprint + Threads + Wait + Clock + Sync,
+    {
+        work_all(rt, self.workers.as_mut_slice(), &self.shared);
     }
 }

@@ -3,7 +3,8 @@
 use rr_desk::Reader;
 use rr_journal::Cursor;
 use rr_packed::PackedArchive;
-use rr_server::Checkpointing;
+use rr_server::{Checkpointing, JournalReading, PeerCalling};
+use rr_web::Given;
 use std::alloc::{Allocator, Global};
 use std::env::{Env, FillError};
 use std::fmt::Display;
@@ -204,6 +205,35 @@ impl<R: Checkpointing> Checkpointing for Process<'_, R> {
         begins: Cursor,
     ) -> io::Result<u64> {
         self.host.checkpoint(alloc, reader, path, begins)
+    }
+}
+
+impl<R: JournalReading> JournalReading for Process<'_, R> {
+    fn journal_part(
+        &self,
+        alloc: Global,
+        path: &str,
+        header: u64,
+        end: u64,
+        from: u64,
+    ) -> io::Result<Given> {
+        self.host.journal_part(alloc, path, header, end, from)
+    }
+
+    fn checkpoint_part(
+        &self,
+        alloc: Global,
+        path: &str,
+        begins: Option<u64>,
+        from: u64,
+    ) -> io::Result<Given> {
+        self.host.checkpoint_part(alloc, path, begins, from)
+    }
+}
+
+impl<R: PeerCalling> PeerCalling for Process<'_, R> {
+    fn call_peer(&self, address: &str, limit: Duration) -> Option<TcpStream> {
+        self.host.call_peer(address, limit)
     }
 }
 

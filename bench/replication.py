@@ -1,0 +1,148 @@
+#!/usr/bin/env python3
+"""What it costs a node of `rr node` to follow another one.
+
+usage: replication.py [PROGRAM] [--cells CELLS] [--seconds SECONDS]
+
+A node takes CELLS samples (4,000,000 if left out), a new cell each, of 4,000 series. Then these are printed:
+
+- how long a new node took to hold all of these, from its start on, the memory of it at most, and the bytes that went
+  between them;
+- with nothing new, for SECONDS (60 if left out): the processor time of both, and the bytes between them, a minute;
+- for a body of 1,000 new samples, one of each of 1,000 series, the median of 20: how long it took from the first node's
+  204 until the other one answered with the last of them, and the bytes between them.
+
+TMPDIR names the folder that has the nodes' directories. Status 1: a node answers otherwise than expected.
+"""
+
+import argparse
+import pathlib
+import socket
+import statistics
+import sys
+import tempfile
+import threading
+import time
+
+from batches import SERIES, Node, bodies, processor_seconds
+from node_lines import peak
+from store import START, TOP
+
+
+class Between:
+    """Passes on what comes at a port, and counts it."""
+
+    def __init__(self, target):
+        self.target, self.bytes = target, 0
+        self.listener = socket.create_server(("127.0.0.1", 0))
+        self.port = self.listener.getsockname()[1]
+        threading.Thread(target=self.accept, daemon=True).start()
+
+    def accept(self):
+        while True:
+            one, _ = self.listener.accept()
+            other = socket.create_connection(("127.0.0.1", self.target))
+            for pair in ((one, other), (other, one)):
+                threading.Thread(target=self.pump, args=pair, daemon=True).start()
+
+    def pump(self, one, other):
+        try:
+            while piece := one.recv(65_536):
+                self.bytes += len(piece)
+                other.sendall(piece)
+        except OSError:
+            pass
+        one.close()
+        other.close()
+
+
+class Follower(Node):
+    """A node that follows another one."""
+
+    def __init__(self, program, folder, rows, peer):
+        folder.mkdir()
+        self.peer = peer
+        super().__init__(program, folder, rows)
+
+    def start(self):
+        text = self.config.read_text()
+        if "peers" not in text:
+            text = text.replace("[1, 1000]", f'[1001, 2000]\npeers = ["127.0.0.1:{self.peer}"]')
+            self.config.write_text(text)
+        return super().start()
+
+
+def answered(node, series, minute):
+    """Whether the node answers with a value for the minute of a series."""
+    start = START + minute * 60
+    target = f"/fetch?cf=LAST&resolution=60&start={start}&end={start + 60}&key=meter%2Cunit%3Du{series}%20kwh"
+    node.connection.request("GET", target)
+    text = node.connection.getresponse().read()
+    return bool(text.strip()) and not text.strip().endswith(b",U")
+
+
+def cells(node):
+    """How many cells a node says that it holds."""
+    node.connection.request("GET", "/metrics")
+    for line in node.connection.getresponse().read().decode().splitlines():
+        if line.startswith("rr_cells "):
+            return int(line.split()[1])
+    return 0
+
+
+def new_samples(first, second, between, minute):
+    """The seconds until a body's last sample is answered by the other node, and the bytes between them."""
+    text = next(bodies(1_000, minute, 1))
+    before = between.bytes
+    first.write(text)
+    began = time.perf_counter()
+    while not answered(second, 999, minute):
+        time.sleep(0.005)
+    took = time.perf_counter() - began
+    time.sleep(2)
+    return took, between.bytes - before
+
+
+def main():
+    parser = argparse.ArgumentParser(description=__doc__.splitlines()[0])
+    parser.add_argument("program", nargs="?", default=str(TOP / "crates/rr_tool/out/rr_tool"))
+    parser.add_argument("--cells", type=int, default=4_000_000)
+    parser.add_argument("--seconds", type=int, default=60)
+    words = parser.parse_args()
+    minutes = words.cells // SERIES
+    nodes = []
+    with tempfile.TemporaryDirectory() as room:
+        try:
+            first = Node(words.program, pathlib.Path(room), 100_000)
+            nodes.append(first)
+            for text in bodies(SERIES, 0, minutes):
+                first.write(text)
+            between = Between(first.port)
+            began = time.perf_counter()
+            second = Follower(words.program, pathlib.Path(room, "second"), 100_000, between.port)
+            nodes.append(second)
+            while not answered(second, SERIES - 1, minutes - 1) or not answered(second, 0, 0):
+                time.sleep(0.05)
+            took = time.perf_counter() - began
+            print(f"a new node held {minutes * SERIES:,} cells after {took:.1f} s: {between.bytes / 1e6:,.1f} MB, "
+                  f"{processor_seconds(second.process):.1f} s of its processor time and "
+                  f"{processor_seconds(first.process):.1f} s of the other's since its start, "
+                  f"{peak(second.process):,.0f} MB at most")
+            time.sleep(15)
+            if cells(second) != cells(first):
+                sys.exit(f"{cells(second)} cells in place of {cells(first)}")
+            before = [processor_seconds(it.process) for it in nodes], between.bytes
+            time.sleep(words.seconds)
+            spent = [processor_seconds(it.process) - was for it, was in zip(nodes, before[0])]
+            per_minute = 60 / words.seconds
+            print(f"nothing new: {spent[0] * per_minute:.3f} and {spent[1] * per_minute:.3f} s of processor time and "
+                  f"{(between.bytes - before[1]) * per_minute:,.0f} bytes a minute")
+            found = [new_samples(first, second, between, minutes + i) for i in range(20)]
+            print(f"1,000 new samples: answered by the other node after {statistics.median(it[0] for it in found):.2f} s, "
+                  f"{max(it[0] for it in found):.2f} s at most, {statistics.median(it[1] for it in found):,.0f} bytes")
+        finally:
+            for node in nodes:
+                node.kill()
+
+
+if __name__ == "__main__":
+    main()

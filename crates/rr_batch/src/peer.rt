@@ -1,0 +1,63 @@
+//! What a peer brings: cells, joined, and how far its journal was read, recorded.
+
+ghost use Rattle.std.specs.Prelude.{◌≡◌, OnOk, fold};
+ghost use Rattle.rr_journal.specs.Keeping.{Grows};
+ghost use Rattle.rr_batch.specs.Peers.{RecordsCursor, joined_if, joined_to};
+
+use crate::origin::out_of_memory;
+use rr_archive::Cells;
+use rr_cells::Cell;
+use rr_commit::ChangesFault;
+use rr_desk::Keeper;
+use rr_journal::{Cursor, Journal, Record, commit, encode};
+use std::alloc::{AllocError, Global};
+
+/// Joins a cell, if it is one of the keeper's schema.
+fn join_if<A: Cells>(cell: &Cell, keeper: &mut Keeper<A>) -> Result<(), AllocError>
+    ensures { OnOk result (keeper.new ≡ joined_if keeper.old cell.now) }
+{
+    if cell.is_of(keeper.schema()) {
+        keeper.join_cell(cell)?;
+    }
+    Ok(())
+}
+
+/// Joins the cells that a peer brought, in order: each is pending then, and is published and committed
+/// with the next batch. One that is none of the keeper's schema is passed over.
+///
+/// If memory runs out, some of them are pending, from the first on. The cost is that of
+/// [`Keeper::join_cell`] for each.
+pub fn join_cells<A: Cells>(cells: &[Cell], keeper: &mut Keeper<A>) -> Result<(), AllocError>
+    ensures { OnOk result (keeper.new ≡ joined_to keeper.old cells.now) }
+{
+    for cell in cells {
+        join_if(cell, keeper)?;
+    }
+    Ok(())
+}
+
+/// Commits a record of how far the journal of a peer was read: behind the cells that it had before, so
+/// that a later start goes on there, and has these cells, whatever a crash leaves.
+///
+/// All that was written before is synced. Refused as `NotWritten`, which leaves the journal as it was,
+/// as `NotSynced`, after which it is to be opened and read again, and as `Memory`.
+pub fn commit_cursor<J: Journal>(
+    alloc: Global,
+    read: &Cursor,
+    journal: &mut J,
+    cursor: &mut Cursor,
+) -> Result<(), ChangesFault>
+    requires { J.text journal.old ≡ J.synced journal.old }
+    ensures recorded { OnOk result (RecordsCursor read.now (J.synced journal.old)
+        (J.synced journal.new) (J.text journal.new) cursor.old cursor.new) }
+    ensures grows { Grows (J.synced journal.old) (J.synced journal.new) }
+{
+    // The proof needs how many bytes these have, which their types ensure.
+    let (_id, _digest) = (read.id, read.digest);
+    let raw = match encode(alloc, &Record::Cursor(*read)) {
+        Ok(raw) => raw,
+        Err(fault) => return Err(ChangesFault::from(out_of_memory(fault))),
+    };
+    commit(journal, cursor, &[raw])?;
+    Ok(())
+}

@@ -1,0 +1,306 @@
+//! How a node follows the journal of a peer.
+
+ghost use Rattle.std.specs.Prelude.{◌≡◌, IfOk, IfSome, None, OnErr};
+ghost use Rattle.rr_replication.specs.Following.{IsReadUpTo, ReadsOn};
+ghost use Rattle.rr_replication.specs.Reading.{peer_state};
+
+use crate::answer::PeerAnswer;
+use crate::fault::PartFault;
+use crate::peer_fault::PeerFault;
+use crate::position::{Position, greeting_target};
+use crate::records::read_part;
+use rr_cells::Cell;
+use rr_io::Counted;
+use rr_journal::{Cursor, ID_LEN, JournalFault, header_from, header_len};
+use rr_schema::Schema;
+use std::alloc::{AllocError, Global};
+
+/// What an answer came to.
+#[derive(Clone, Copy, Debug, PartialEq, Eq)]
+pub enum Next {
+    /// There is more: the peer is to be asked again at once. Cells may have come.
+    More {
+        /// Up to where the peer's journal is read, once what came is joined: worth a record if cells
+        /// came. Nothing while a checkpoint is read.
+        read: Option<Cursor>,
+    },
+    /// There is nothing new.
+    UpToDate,
+}
+
+/// How far a node has read the store of a peer: its journal, behind its newest checkpoint if need be.
+#[derive(Drop)]
+pub struct Following {
+    alloc: Global,
+    /// How far the journals of peers were read before, by their ids.
+    known: Vec<Cursor>,
+    /// Where the node is, if the peer was greeted once.
+    position: Option<Position>,
+    /// The id of the peer's journal, as it was told last.
+    id: [u8; ID_LEN],
+    /// Whether the peer was greeted over this connection.
+    is_greeted: bool,
+    /// Whether a checkpoint was begun, and the journal wasn't gone on with since.
+    is_beginning: bool,
+}
+
+/// Reads a part from a place on.
+fn read_on(
+    alloc: Global,
+    bytes: &[u8],
+    place: Cursor,
+    schema: &Schema,
+    cells: &mut Vec<Cell>,
+) -> Result<Cursor, PartFault>
+    ensures read { ReadsOn schema.now (peer_state place cells.old.items) cells.new.items bytes.now
+        result }
+    ensures refused { OnErr result (cells.new.items ≡ cells.old.items) }
+{
+    let mut end = place;
+    read_part(alloc, bytes, &mut end, schema, cells)?;
+    Ok(end)
+}
+
+/// Why the beginning of a checkpoint's file is refused.
+fn header_fault(fault: JournalFault) -> PeerFault {
+    match fault {
+        JournalFault::Memory => PeerFault::Memory,
+        JournalFault::SchemaDiffers | JournalFault::BadDecimals => PeerFault::SchemaDiffers,
+        _ => PeerFault::BadAnswer,
+    }
+}
+
+/// What is there for a status that is no answer of a node that follows the rules.
+fn status_fault(status: u16) -> PeerFault {
+    match status {
+        409 => PeerFault::SchemaDiffers,
+        _ => PeerFault::BadAnswer,
+    }
+}
+
+impl Following {
+    ghost use Rattle.rr_replication.specs.Following.{asked_place, asked_target, read_in};
+
+    /// Follows a peer from where the journal of its id was read up to, if that is one of these, and
+    /// else from the beginning.
+    pub fn new(alloc: Global, known: Vec<Cursor>) -> Following {
+        Following {
+            alloc,
+            known,
+            position: None,
+            id: [0; ID_LEN],
+            is_greeted: false,
+            is_beginning: false,
+        }
+    }
+
+    /// Notes that another connection is begun, over which the peer is to be greeted first.
+    pub fn reconnect(&mut self) {
+        self.is_greeted = false;
+    }
+
+    /// Whether a checkpoint is read.
+    pub fn is_in_checkpoint(&self) -> bool {
+        matches!(
+            self.position,
+            Some(Position::Newest) | Some(Position::Checkpoint { .. })
+        )
+    }
+
+    /// What the next request asks for.
+    pub fn target(&self, schema: &Schema) -> Result<Vec<u8>, AllocError>
+        ensures { IfOk result (λ text. text.items ≡ asked_target schema.now self.now) }
+    {
+        match &self.position {
+            Some(position) if self.is_greeted => position.target(self.alloc, schema),
+            _ => greeting_target(self.alloc, schema),
+        }
+    }
+
+    /// Where the journal of an id was read up to, or where it begins.
+    fn known_place(&self, id: [u8; ID_LEN]) -> Cursor {
+        for known in &self.known {
+            if known.id == id {
+                return *known;
+            }
+        }
+        Cursor::start(id)
+    }
+
+    /// Keeps how far the journal is read that the node is in, in place of what was known of it.
+    fn keep_place(&mut self) -> Result<(), AllocError> {
+        let Some(Position::Journal(place)) = self.position else {
+            return Ok(());
+        };
+        for known in &mut self.known {
+            if known.id == place.id {
+                *known = place;
+                return Ok(());
+            }
+        }
+        self.known.push(place)?;
+        Ok(())
+    }
+
+    /// Takes the answer to a greeting: where the peer's journal is. Another one than before is begun
+    /// with where it was read up to.
+    fn take_greeting(&mut self, answer: &PeerAnswer) -> Result<Next, PeerFault> {
+        if answer.status != 204 {
+            return Err(status_fault(answer.status));
+        }
+        let Some(id) = answer.id else {
+            return Err(PeerFault::BadAnswer);
+        };
+        if self.position.is_none() || self.id != id {
+            self.keep_place()?;
+            self.position = Some(Position::Journal(self.known_place(id)));
+            self.id = id;
+        }
+        self.is_greeted = true;
+        Ok(Next::More { read: None })
+    }
+
+    /// Begins with the newest checkpoint, since the peer has no more the bytes that were asked for. A
+    /// peer of which that is so again and again isn't followed at once.
+    fn begin_again(&mut self) -> Result<Next, PeerFault>
+        ensures { IfOk result (λ next. read_in next ≡ None) }
+    {
+        self.position = Some(Position::Newest);
+        if self.is_beginning {
+            self.is_beginning = false;
+            return Err(PeerFault::Gone);
+        }
+        self.is_beginning = true;
+        Ok(Next::More { read: None })
+    }
+
+    /// Takes an answer to what was asked for of the journal. A part that doesn't go on from here is of
+    /// another history, of which the newest checkpoint is asked for next.
+    fn take_journal(
+        &mut self,
+        place: Cursor,
+        answer: &PeerAnswer,
+        schema: &Schema,
+        cells: &mut Vec<Cell>,
+    ) -> Result<Next, PeerFault>
+        ensures read { IfOk result (IsReadUpTo schema.now place cells.old.items answer.now.body.items
+            cells.new.items) }
+        ensures refused { OnErr result (cells.new.items ≡ cells.old.items) }
+    {
+        match answer.status {
+            200 => {}
+            204 => {
+                self.is_beginning = false;
+                return Ok(Next::UpToDate);
+            }
+            410 => return self.begin_again(),
+            status => return Err(status_fault(status)),
+        }
+        match read_on(self.alloc, &answer.body, place, schema, cells) {
+            Ok(end) => {
+                self.is_beginning = false;
+                self.position = Some(Position::Journal(end));
+                Ok(Next::More { read: Some(end) })
+            }
+            Err(PartFault::Memory) => Err(PeerFault::Memory),
+            Err(fault) => {
+                self.position = Some(Position::Newest);
+                Err(PeerFault::Part(fault))
+            }
+        }
+    }
+
+    /// Takes the beginning of the newest checkpoint.
+    fn take_newest(
+        &mut self,
+        answer: &PeerAnswer,
+        schema: &Schema,
+        cells: &mut Vec<Cell>,
+    ) -> Result<Next, PeerFault>
+        ensures refused { OnErr result (cells.new.items ≡ cells.old.items) }
+    {
+        match answer.status {
+            200 => {}
+            410 => {
+                // There is no checkpoint, so the journal may be there from its beginning on.
+                self.position = Some(Position::Journal(Cursor::start(self.id)));
+                return Err(PeerFault::Gone);
+            }
+            status => return Err(status_fault(status)),
+        }
+        let mut input = Counted::new(answer.body.as_slice());
+        let begins = match header_from(self.alloc, &mut input, schema) {
+            Ok(begins) => begins,
+            Err(fault) => return Err(header_fault(fault)),
+        };
+        if begins.id != self.id {
+            return Err(PeerFault::BadAnswer);
+        }
+        let records = &answer.body[header_len(schema).min(answer.body.len())..];
+        let place = read_on(self.alloc, records, begins, schema, cells)?;
+        self.position = Some(Position::Checkpoint { begins, place });
+        Ok(Next::More { read: None })
+    }
+
+    /// Takes an answer to what was asked for of a checkpoint, behind which the journal is gone on with.
+    fn take_checkpoint(
+        &mut self,
+        begins: Cursor,
+        place: Cursor,
+        answer: &PeerAnswer,
+        schema: &Schema,
+        cells: &mut Vec<Cell>,
+    ) -> Result<Next, PeerFault>
+        ensures refused { OnErr result (cells.new.items ≡ cells.old.items) }
+    {
+        match answer.status {
+            200 => {}
+            204 => {
+                self.position = Some(Position::Journal(begins));
+                return Ok(Next::More { read: Some(begins) });
+            }
+            410 => return self.begin_again(),
+            status => return Err(status_fault(status)),
+        }
+        match read_on(self.alloc, &answer.body, place, schema, cells) {
+            Ok(place) => {
+                self.position = Some(Position::Checkpoint { begins, place });
+                Ok(Next::More { read: None })
+            }
+            Err(fault) => {
+                self.position = Some(Position::Newest);
+                Err(PeerFault::Part(fault))
+            }
+        }
+    }
+
+    /// Takes the answer to the last request, which [`Following::target`] gave, and adds the cells that
+    /// it has behind `cells`. Where bytes of the journal were asked for, they are those of a part that
+    /// was given from its place on, as [`read_part`] reads one.
+    ///
+    /// Refused as `SchemaDiffers` by the peer; as `Gone` where it has neither the journal from here on
+    /// nor a checkpoint; as [`PartFault`] says where its bytes don't go on from here or mean nothing:
+    /// then the newest checkpoint is asked for next; as `BadAnswer` where no node answers so; and as
+    /// `Memory`. After a refusal no cells are added.
+    pub fn take(
+        &mut self,
+        answer: &PeerAnswer,
+        schema: &Schema,
+        cells: &mut Vec<Cell>,
+    ) -> Result<Next, PeerFault>
+        ensures read { IfSome (asked_place self.old) (λ place. IfOk result (IsReadUpTo schema.now
+            place cells.old.items answer.now.body.items cells.new.items)) }
+        ensures refused { OnErr result (cells.new.items ≡ cells.old.items) }
+    {
+        match self.position {
+            Some(position) if self.is_greeted => match position {
+                Position::Journal(place) => self.take_journal(place, answer, schema, cells),
+                Position::Newest => self.take_newest(answer, schema, cells),
+                Position::Checkpoint { begins, place } => {
+                    self.take_checkpoint(begins, place, answer, schema, cells)
+                }
+            },
+            _ => self.take_greeting(answer),
+        }
+    }
+}

@@ -1,0 +1,216 @@
+//! What peers bring, as who keeps takes it.
+
+use crate::node::link::PeerLink;
+use crate::node::mailbox::{Delivery, Mailbox};
+use rr_batch::{BatchFault, commit_cursor, join_cells};
+use rr_commit::ChangesFault;
+use rr_desk::Keeper;
+use rr_files::JournalFile;
+use rr_journal::Cursor;
+use rr_packed::PackedArchive;
+use rr_web::PeerNumbers;
+use std::alloc::{AllocError, Global};
+use std::fs::OpenFile;
+use std::io::{Seek, Write};
+use std::sync::Wait;
+use std::time::Clock;
+
+/// How many cells of peers are joined in a batch at most, so that lines don't wait for longer.
+const CELLS: usize = 8_192;
+
+/// What one peer brought.
+#[derive(Drop)]
+struct Arrival {
+    link: PeerLink,
+    delivery: Option<Delivery>,
+    /// How many of its cells are joined.
+    joined: usize,
+    /// Whether it was told that the peer has cells of the node's own origin.
+    is_own_told: bool,
+}
+
+/// What peers brought, and how far their journals are read.
+#[derive(Drop)]
+pub(crate) struct Arrivals {
+    alloc: Global,
+    arrivals: Vec<Arrival>,
+    /// How far each journal is read, by its id.
+    cursors: Vec<Cursor>,
+}
+
+impl Arrival {
+    /// Takes what waits, if all that was taken before is done with.
+    fn take<R: Wait>(&mut self, rt: &R) {
+        if self.delivery.is_some() {
+            return;
+        }
+        let mailbox: &Mailbox = &self.link.mailbox;
+        self.delivery = mailbox.take(rt);
+        self.joined = 0;
+    }
+
+    /// How many cells are left to be joined.
+    fn left(&self) -> usize {
+        match &self.delivery {
+            Some(delivery) => delivery.cells.len().saturating_sub(self.joined),
+            None => 0,
+        }
+    }
+
+    /// Joins the next cells, at most this many.
+    fn join<R: Eprint>(
+        &mut self,
+        rt: &R,
+        keeper: &mut Keeper<PackedArchive>,
+        most: usize,
+    ) -> Result<(), AllocError> {
+        let Some(delivery) = &self.delivery else {
+            return Ok(());
+        };
+        let next = keeper.next_number();
+        let len = delivery.cells.len();
+        let begin = self.joined.min(len);
+        let end = begin.saturating_add(most).min(len);
+        join_cells(&delivery.cells[begin..end], keeper)?;
+        self.joined = end;
+        if next < keeper.next_number() && !self.is_own_told {
+            self.is_own_told = true;
+            let number = self.link.number;
+            // If this can't be printed, the node goes on all the same.
+            let _printed = eprintln!(rt; "peer {number}: own origin");
+        }
+        Ok(())
+    }
+
+    /// Lets go of what is joined and recorded.
+    fn finish<R: Wait>(&mut self, rt: &R) {
+        self.delivery = None;
+        let mailbox: &Mailbox = &self.link.mailbox;
+        mailbox.done(rt);
+    }
+
+    /// Whether all cells are joined of what was taken.
+    fn is_joined(&self) -> bool {
+        self.delivery.is_some() && self.left() == 0
+    }
+
+    /// Up to where the journal is read then.
+    fn read(&self) -> Option<Cursor> {
+        match &self.delivery {
+            Some(delivery) => delivery.read,
+            None => None,
+        }
+    }
+}
+
+/// Puts a cursor in place of that of its journal, or behind all.
+fn put_cursor(cursors: &mut Vec<Cursor>, cursor: Cursor) -> Result<(), AllocError> {
+    for known in cursors.iter_mut() {
+        if known.id == cursor.id {
+            *known = cursor;
+            return Ok(());
+        }
+    }
+    cursors.push(cursor)?;
+    Ok(())
+}
+
+impl Arrivals {
+    /// Nothing was brought yet by the peers of these links; how far journals were read is this.
+    pub(crate) fn new(
+        alloc: Global,
+        links: Vec<PeerLink>,
+        cursors: Vec<Cursor>,
+    ) -> Result<Arrivals, AllocError> {
+        let mut arrivals = Vec::with_capacity(alloc, links.len())?;
+        for link in links {
+            arrivals.push(Arrival {
+                link,
+                delivery: None,
+                joined: 0,
+                is_own_told: false,
+            })?;
+        }
+        Ok(Arrivals {
+            alloc,
+            arrivals,
+            cursors,
+        })
+    }
+
+    /// Whether cells are left to be joined of what was taken.
+    pub(crate) fn has_left(&self) -> bool {
+        for arrival in &self.arrivals {
+            if arrival.left() > 0 {
+                return true;
+            }
+        }
+        false
+    }
+
+    /// Joins the next cells of what peers brought, of each as many as of any other, and says whether
+    /// there is anything to be committed.
+    pub(crate) fn join<R: Eprint + Wait>(
+        &mut self,
+        rt: &R,
+        keeper: &mut Keeper<PackedArchive>,
+    ) -> Result<bool, AllocError> {
+        let most = CELLS / self.arrivals.len().max(1);
+        let mut has_more = false;
+        for arrival in &mut self.arrivals {
+            arrival.take(rt);
+            has_more |= arrival.left() > 0;
+            arrival.join(rt, keeper, most)?;
+        }
+        Ok(has_more)
+    }
+
+    /// Records how far journals are read of which all that was brought is joined and saved, and says so
+    /// to their peers. What can't be recorded now is recorded later.
+    pub(crate) fn settle<R: Wait, F: Write + Seek + OpenFile>(
+        &mut self,
+        rt: &R,
+        journal: &mut JournalFile<F>,
+        cursor: &mut Cursor,
+    ) -> Result<(), BatchFault> {
+        for arrival in &mut self.arrivals {
+            if !arrival.is_joined() {
+                continue;
+            }
+            if let Some(read) = arrival.read() {
+                match commit_cursor(self.alloc, &read, journal, cursor) {
+                    Ok(()) => put_cursor(&mut self.cursors, read)?,
+                    Err(ChangesFault::NotWritten) => continue,
+                    Err(ChangesFault::NotSynced) => return Err(BatchFault::NotSynced),
+                    Err(ChangesFault::Memory) => return Err(BatchFault::Memory),
+                }
+            }
+            arrival.finish(rt);
+        }
+        Ok(())
+    }
+
+    /// Records all of how far journals are read, in a new file of the journal, and says whether that is
+    /// saved.
+    pub(crate) fn record<F: Write + Seek + OpenFile>(
+        &self,
+        journal: &mut JournalFile<F>,
+        cursor: &mut Cursor,
+    ) -> bool {
+        for read in &self.cursors {
+            if commit_cursor(self.alloc, read, journal, cursor).is_err() {
+                return false;
+            }
+        }
+        true
+    }
+
+    /// The numbers of the peers, as they stand.
+    pub(crate) fn numbers<R: Wait + Clock>(&self, rt: &R) -> Result<Vec<PeerNumbers>, AllocError> {
+        let mut numbers = Vec::with_capacity(self.alloc, self.arrivals.len())?;
+        for arrival in &self.arrivals {
+            numbers.push(arrival.link.numbers(rt, self.alloc)?)?;
+        }
+        Ok(numbers)
+    }
+}

@@ -1,0 +1,190 @@
+//! Who follows a peer.
+
+use crate::node::link::{PeerLink, Standing};
+use crate::node::mailbox::{Delivery, Mailbox};
+use crate::node::shared::Shared;
+use crate::tcp::{Half, halves};
+use rr_cells::Cell;
+use rr_journal::Cursor;
+use rr_reactor::Queues;
+use rr_replication::{Following, Next, PeerAnswer, PeerConnection, PeerFault};
+use rr_schema::Schema;
+use std::alloc::Global;
+use std::net::{Net, TcpStream, ToSocketAddrs};
+use std::sync::Wait;
+use std::time::{Clock, Duration};
+
+/// For how many seconds a peer may send or take no byte, or not answer a call.
+const PATIENCE: u64 = 10;
+
+/// After a failure a peer is called again a second later, and after further ones 2, 4 and so on, up to
+/// this many.
+const LONGEST_PAUSE: u64 = 64;
+
+/// Connects to peers from threads of their own. [`Net`] has types of its own, which can't be shown to
+/// be safe on another thread than the first; so what the others do with the network is in here, where
+/// there are none.
+pub trait PeerCalling {
+    /// Connects to the first of a name's addresses that answers in time.
+    fn call_peer(&self, address: &str, limit: Duration) -> Option<TcpStream>;
+}
+
+impl PeerCalling for HostRuntime {
+    fn call_peer(&self, address: &str, limit: Duration) -> Option<TcpStream> {
+        for found in address.to_socket_addrs(self).ok()? {
+            if let Ok(stream) = TcpStream::connect_timeout(self, &found, limit) {
+                return Some(stream);
+            }
+        }
+        None
+    }
+}
+
+/// Who follows a peer, on a thread of its own: asks it again and again for what its journal has more,
+/// and hands what comes to who keeps.
+#[derive(Drop)]
+pub(crate) struct Peer {
+    alloc: Global,
+    schema: Schema,
+    following: Following,
+    link: PeerLink,
+    shared: Shared,
+    /// What was told last of why the peer isn't followed.
+    told: Option<PeerFault>,
+    /// How many seconds the next pause after a failure takes.
+    pause: u64,
+}
+
+impl Peer {
+    /// Follows a peer of this schema, from where its journal was read up to if that is one of these.
+    pub(crate) fn new(
+        alloc: Global,
+        schema: Schema,
+        known: Vec<Cursor>,
+        link: PeerLink,
+        shared: Shared,
+    ) -> Peer {
+        Peer {
+            alloc,
+            schema,
+            following: Following::new(alloc, known),
+            link,
+            shared,
+            told: None,
+            pause: 1,
+        }
+    }
+
+    /// Whether the node ends.
+    fn is_halted(&self) -> bool {
+        let queues: &Queues = &self.shared.queues;
+        queues.is_halted()
+    }
+
+    /// A connection to the peer, which is to be greeted over it.
+    fn connect<R: PeerCalling>(&mut self, rt: &R) -> Result<PeerConnection<Half, Half>, PeerFault> {
+        let limit = Duration::from_secs(PATIENCE);
+        let Some(stream) = rt.call_peer(self.link.address.as_str(), limit) else {
+            return Err(PeerFault::BadAddress);
+        };
+        let halt = &self.shared.halt;
+        let Some((input, output)) = halves(self.alloc, stream, Some(PATIENCE), halt) else {
+            return Err(PeerFault::BadAddress);
+        };
+        self.following.reconnect();
+        Ok(PeerConnection::new(self.alloc, input, output))
+    }
+
+    /// Hands on what came, and waits until who keeps is done with it. Nothing is handed on where no
+    /// cells came, unless a checkpoint ends.
+    fn hand_on<R: Wait + Clock>(&self, rt: &R, cells: Vec<Cell>, read: Option<Cursor>) {
+        let queues: &Queues = &self.shared.queues;
+        let mailbox: &Mailbox = &self.link.mailbox;
+        let _done = mailbox.deliver(rt, Delivery { cells, read }, queues);
+    }
+
+    /// Takes an answer, and says whether there is more.
+    fn take<R: Wait + Clock>(&mut self, rt: &R, answer: &PeerAnswer) -> Result<bool, PeerFault> {
+        let was_in_checkpoint = self.following.is_in_checkpoint();
+        let mut cells = Vec::new(self.alloc);
+        let next = self.following.take(answer, &self.schema, &mut cells)?;
+        self.pause = 1;
+        let link = &self.link;
+        let standing: &Standing = &link.standing;
+        match next {
+            Next::UpToDate => {
+                standing.is_read(rt);
+                self.told = None;
+                Ok(false)
+            }
+            Next::More { read } => {
+                standing.goes_on(lag_of(answer, read));
+                if !cells.is_empty() || (was_in_checkpoint && read.is_some()) {
+                    self.hand_on(rt, cells, read);
+                }
+                Ok(true)
+            }
+        }
+    }
+
+    /// Follows the peer over a connection, until the node ends or the peer can't be followed.
+    fn follow<R: PeerCalling + Wait + Clock>(&mut self, rt: &R) -> Result<(), PeerFault> {
+        let mut connection = self.connect(rt)?;
+        for _ in 0..u64::MAX {
+            if self.is_halted() {
+                break;
+            }
+            let target = self.following.target(&self.schema)?;
+            let answer = connection.ask(self.link.address.as_bytes(), &target)?;
+            if !self.take(rt, &answer)? {
+                self.rest(rt);
+            }
+        }
+        Ok(())
+    }
+
+    /// Rests for a second.
+    fn rest<R: Wait + Clock>(&self, rt: &R) {
+        let mailbox: &Mailbox = &self.link.mailbox;
+        mailbox.rest(rt);
+    }
+
+    /// Tells why the peer isn't followed, unless that was told last, and pauses.
+    fn note<R: Eprint + Wait + Clock>(&mut self, rt: &R, fault: PeerFault) {
+        let standing: &Standing = &self.link.standing;
+        standing.is_down();
+        if self.told != Some(fault) {
+            self.told = Some(fault);
+            let (number, name) = (self.link.number, fault.name());
+            // If this can't be printed, the peer is called again all the same.
+            let _printed = eprintln!(rt; "peer {number}: {name}");
+        }
+        for _ in 0..self.pause {
+            if self.is_halted() {
+                return;
+            }
+            self.rest(rt);
+        }
+        self.pause = self.pause.saturating_mul(2).min(LONGEST_PAUSE);
+    }
+
+    /// Follows the peer until the node ends.
+    pub(crate) fn serve<R: PeerCalling + Eprint + Wait + Clock>(&mut self, rt: &R) {
+        for _ in 0..u64::MAX {
+            if self.is_halted() {
+                return;
+            }
+            if let Err(fault) = self.follow(rt) {
+                self.note(rt, fault);
+            }
+        }
+    }
+}
+
+/// How many bytes of a peer's journal aren't read yet, if its answer says where it ends.
+fn lag_of(answer: &PeerAnswer, read: Option<Cursor>) -> Option<u64> {
+    let (Some(end), Some(read)) = (answer.end, read) else {
+        return None;
+    };
+    Some(end.saturating_sub(read.offset))
+}
