@@ -8,6 +8,10 @@ use Rattle.rr_reactor.specs.declared.item.Work.{Work}
 abbrev pub item_of : {S : Type 0} → Connection S → Option ℕ
 item_of c = c.out
 
+-- an item of it is out
+abbrev pub IsOut : {S : Type 0} → Connection S → Type 0
+IsOut c = IsSome c.out
+
 -- one is given only where none is out, and then it is out
 abbrev pub GivesOne : Option ℕ → Option Work → Option ℕ → Type 0
 GivesOne old None new = new ≡ old

@@ -1,4 +1,5 @@
 pub mod Limits
 pub mod Watch
+pub mod Pace
 pub mod Connection
 pub mod Connections

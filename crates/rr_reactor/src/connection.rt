@@ -1,10 +1,11 @@
 //! One connection: what is said over it, and its socket.
 
 ghost use Rattle.std.specs.Prelude.{◌≡◌};
-ghost use Rattle.rr_reactor.specs.Connection.{GivesOne, GivesStep, item_of};
+ghost use Rattle.rr_reactor.specs.Connection.{GivesOne, GivesStep, IsOut, item_of};
 
 use crate::item::{Outcome, Work};
 use crate::limits::Limits;
+use crate::pace::{Holder, Pace};
 use crate::protocol::Protocol;
 use crate::socket::{Moved, Socket, moved_by};
 use crate::watch::{Candidate, Stage, Watch};
@@ -42,9 +43,12 @@ pub struct Connection<S> {
     is_queued: bool,
     /// How many bytes are held for the item that is out, if one is.
     out: Option<usize>,
-    /// Whether bytes came or went since its watch was set.
-    has_moved: bool,
+    /// How many bytes were sent out of a buffer that has its room still.
+    sent: usize,
+    /// How many bytes came or went since its watch was set.
+    moved: usize,
     watch: Watch,
+    pace: Pace,
 }
 
 impl<S: Socket> Connection<S> {
@@ -62,8 +66,10 @@ impl<S: Socket> Connection<S> {
             drains: false,
             is_queued: false,
             out: None,
-            has_moved: false,
+            sent: 0,
+            moved: 0,
             watch: Watch::new(now),
+            pace: Pace::new(now),
         }
     }
 
@@ -99,9 +105,23 @@ impl<S: Socket> Connection<S> {
         self.watch.candidate(key, now)
     }
 
-    /// How many bytes of memory are held for it and its item.
+    /// What it is among those that may be let go for the memory that is held for them: none while an item
+    /// of it is out, or it could be moved on at once.
+    pub(crate) fn holder(&self, limits: &Limits, key: usize, now: u64) -> Option<Holder>
+        ensures { IsOut self.now → result ≡ None }
+    {
+        if self.out.is_some() || self.is_queued {
+            return None;
+        }
+        let is_kept = self.is_held_up() && !self.protocol.wants_write();
+        self.pace.holder(limits, key, self.held(), is_kept, now)
+    }
+
+    /// How many bytes of memory are held for it and its item, counted as allocated: those that were sent
+    /// take room until all are.
     pub(crate) fn held(&self) -> usize {
-        self.protocol.held().saturating_add(self.out.unwrap_or(0))
+        let sending = self.protocol.held().saturating_add(self.sent);
+        sending.saturating_add(self.out.unwrap_or(0))
     }
 
     /// Notes what its socket is ready for, and whether the other side was seen to have ended.
@@ -125,9 +145,26 @@ impl<S: Socket> Connection<S> {
         ensures { item_of self.new ≡ None }
     {
         self.out = None;
+        let before = self.protocol.held().saturating_add(self.sent);
         if !self.protocol.answer(outcome) {
             self.close();
         }
+        // What isn't sent was moved to the beginning of its buffer, where those that were sent were.
+        if self.protocol.held() >= before {
+            self.sent = 0;
+        }
+    }
+
+    /// Notes that this many bytes were sent. A buffer gives its room back when all are.
+    fn note_sent(&mut self, count: usize)
+        ensures { item_of self.new ≡ item_of self.old }
+    {
+        self.moved = self.moved.saturating_add(count);
+        self.sent = if self.protocol.wants_write() {
+            self.sent.saturating_add(count)
+        } else {
+            0
+        };
     }
 
     /// Writes once.
@@ -138,7 +175,7 @@ impl<S: Socket> Connection<S> {
             return;
         };
         match self.protocol.write_to(socket) {
-            Moved::Bytes(_) => self.has_moved = true,
+            Moved::Bytes(count) => self.note_sent(count),
             Moved::Again => {}
             Moved::Later => self.is_writable = false,
             Moved::End | Moved::Failed => self.close(),
@@ -149,7 +186,7 @@ impl<S: Socket> Connection<S> {
     fn take_in(&mut self, bytes: &[u8], count: usize)
         ensures { item_of self.new ≡ item_of self.old }
     {
-        self.has_moved = true;
+        self.moved = self.moved.saturating_add(count);
         // A socket that gave less than it might has no more, unless its end is still to be read.
         if count < bytes.len() && !self.is_ending {
             self.is_readable = false;
@@ -235,8 +272,8 @@ impl<S: Socket> Connection<S> {
         }
     }
 
-    /// Moves once: writes, asks, ends or reads.
-    fn step(&mut self, scratch: &mut [u8], may_read: bool) -> Progress
+    /// Moves once: writes, asks, ends or reads, if there is room to read into.
+    fn step(&mut self, scratch: &mut [u8]) -> Progress
         ensures { GivesStep (item_of self.old) result (item_of self.new) }
     {
         if self.can_write() {
@@ -250,7 +287,7 @@ impl<S: Socket> Connection<S> {
         if self.can_write() {
             self.write();
             Progress::Goes
-        } else if may_read && self.can_read() {
+        } else if !scratch.is_empty() && self.can_read() {
             self.read(scratch);
             Progress::Goes
         } else {
@@ -259,11 +296,14 @@ impl<S: Socket> Connection<S> {
     }
 
     /// Moves on, until something is asked for or it has to wait.
-    fn move_on(&mut self, scratch: &mut [u8], may_read: bool) -> Progress
+    fn move_on(&mut self, scratch: &mut [u8], limits: &Limits, others: usize) -> Progress
         ensures { GivesStep (item_of self.old) result (item_of self.new) }
     {
         for _ in 0..STEPS {
-            match self.step(scratch, may_read) {
+            let own = self.held();
+            let most = limits.may_read(others.saturating_add(own), own);
+            let size = scratch.len().min(most);
+            match self.step(&mut scratch[..size]) {
                 Progress::Goes => {}
                 progress => return progress,
             }
@@ -284,13 +324,29 @@ impl<S: Socket> Connection<S> {
         }
     }
 
-    /// Moves on, and sets its watch.
-    pub(crate) fn pump(&mut self, scratch: &mut [u8], may_read: bool, now: u64) -> Progress
+    /// Notes what it waits for now, and how much moved.
+    fn note_pace(&mut self, now: u64)
+        ensures { item_of self.new ≡ item_of self.old }
+    {
+        let stage = self.stage();
+        let is_new = stage != self.watch.stage;
+        self.pace = self.pace.note(is_new, self.moved, self.held(), now);
+        self.watch = self.watch.note(stage, self.moved > 0, now);
+        self.moved = 0;
+    }
+
+    /// Moves on, where other connections hold so much memory, and sets its watch.
+    pub(crate) fn pump(
+        &mut self,
+        scratch: &mut [u8],
+        limits: &Limits,
+        others: usize,
+        now: u64,
+    ) -> Progress
         ensures { GivesStep (item_of self.old) result (item_of self.new) }
     {
-        let progress = self.move_on(scratch, may_read);
-        self.watch = self.watch.note(self.stage(), self.has_moved, now);
-        self.has_moved = false;
+        let progress = self.move_on(scratch, limits, others);
+        self.note_pace(now);
         progress
     }
 }

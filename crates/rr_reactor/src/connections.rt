@@ -7,6 +7,7 @@ ghost use Rattle.rr_reactor.specs.Connections.{count_of, most_of};
 use crate::connection::{Connection, Progress};
 use crate::item::{Item, Outcome, Work};
 use crate::limits::Limits;
+use crate::pace::{Holder, first_to_free};
 use crate::protocol::Protocol;
 use crate::socket::Socket;
 use crate::watch::first_to_go;
@@ -17,6 +18,9 @@ use std::collections::VecDeque;
 
 /// How many bytes are read at a time at most.
 const SCRATCH: usize = 64 * 1024;
+
+/// So many are let go at a sweep, at most, for the memory that is held for them.
+const LET_GO: usize = 64;
 
 /// What was asked for, and is to be handed on.
 #[derive(Drop)]
@@ -38,29 +42,50 @@ pub struct Connections<S> {
     asked: Asked,
     /// The keys of those that can be moved on at once.
     ready: VecDeque<usize>,
+    /// Whether one had to wait for memory since others were let go last, and how many bytes the longest
+    /// answer has that didn't fit.
+    short: Option<usize>,
     /// Whether the queue of writes is behind, and that of fetches.
     writes_behind: bool,
     fetches_behind: bool,
 }
 
-/// The answer to a request where the queue is behind.
-fn busy(alloc: Global) -> Result<Reply, AllocError> {
+/// Why nothing was done where a queue is behind.
+const BEHIND: &[u8] = b"{\"error\":\"the node is behind: nothing was written\"}\n";
+
+/// Why an answer isn't given where there is no room for it.
+const NO_ROOM: &[u8] = b"{\"error\":\"the node holds too many answers\"}\n";
+
+/// A short answer: why there is no other one.
+fn excuse(alloc: Global, status: u16, text: &[u8]) -> Result<Outcome, AllocError> {
     let mut fields = Vec::with_capacity(alloc, 2)?;
     fields.push(Field {
         name: b"content-type",
         value: Value::Constant(b"application/json"),
     })?;
-    fields.push(Field {
-        name: b"retry-after",
-        value: Value::Constant(b"1"),
-    })?;
-    let text = b"{\"error\":\"the node is behind: nothing was written\"}\n";
-    Ok(Reply {
-        status: 503,
+    if status == 503 {
+        fields.push(Field {
+            name: b"retry-after",
+            value: Value::Constant(b"1"),
+        })?;
+    }
+    Ok(Outcome::Reply(Reply {
+        status,
         fields,
-        body: Vec::from_slice(alloc, text.as_slice())?,
+        body: Vec::from_slice(alloc, text)?,
         closes: false,
-    })
+    }))
+}
+
+/// What is answered in place of what doesn't fit. To what was asked it is 503; what was done keeps its
+/// status.
+fn no_room(alloc: Global, outcome: &Outcome) -> Outcome {
+    let status = match outcome {
+        Outcome::Reply(reply) if reply.status == 200 => 503,
+        Outcome::Reply(reply) => reply.status,
+        _ => return Outcome::Nothing,
+    };
+    excuse(alloc, status, NO_ROOM).unwrap_or(Outcome::Nothing)
 }
 
 impl<S: Socket> Connections<S> {
@@ -78,6 +103,7 @@ impl<S: Socket> Connections<S> {
             scratch: Vec::from_elem(alloc, 0, SCRATCH)?,
             asked,
             ready: VecDeque::with_capacity(alloc, limits.connections)?,
+            short: None,
             writes_behind: false,
             fetches_behind: false,
         })
@@ -152,8 +178,24 @@ impl<S: Socket> Connections<S> {
         }
     }
 
+    /// Notes that there was no room for an answer of this many bytes, or for what a client sends.
+    fn lack(&mut self, wanted: usize) {
+        self.short = Some(self.short.unwrap_or(0).max(wanted));
+    }
+
+    /// An answer, or if it doesn't fit another one that says so.
+    fn fitting(&mut self, outcome: Outcome) -> Outcome {
+        let wanted = outcome.held();
+        if self.limits.takes(self.held, wanted) {
+            return outcome;
+        }
+        self.lack(wanted);
+        no_room(self.alloc, &outcome)
+    }
+
     /// Passes an answer to its connection.
     fn take_answer(&mut self, key: usize, outcome: Outcome) {
+        let outcome = self.fitting(outcome);
         if let Some(connection) = self.slab.get_mut(key) {
             let before = connection.held();
             connection.answer(outcome);
@@ -178,11 +220,13 @@ impl<S: Socket> Connections<S> {
         let Some(connection) = self.slab.get_mut(key) else {
             return Progress::Waits;
         };
-        let before = connection.held();
-        let may_read = self.limits.may_read(self.held, before);
-        let progress = connection.pump(self.scratch.as_mut_slice(), may_read, now);
-        let after = connection.held();
-        self.held = self.held.saturating_sub(before).saturating_add(after);
+        let others = self.held.saturating_sub(connection.held());
+        let progress = connection.pump(self.scratch.as_mut_slice(), &self.limits, others, now);
+        let waits = matches!(progress, Progress::Waits) && connection.is_held_up();
+        self.held = others.saturating_add(connection.held());
+        if waits {
+            self.lack(0);
+        }
         progress
     }
 
@@ -192,11 +236,8 @@ impl<S: Socket> Connections<S> {
             Progress::Waits => {}
             Progress::Goes => self.keep_ready(key),
             Progress::Work(work) if self.is_refused(&work) => {
-                let outcome = match busy(self.alloc) {
-                    Ok(reply) => Outcome::Reply(reply),
-                    Err(_) => Outcome::Nothing,
-                };
-                self.take_answer(key, outcome);
+                let outcome = excuse(self.alloc, 503, BEHIND);
+                self.take_answer(key, outcome.unwrap_or(Outcome::Nothing));
                 self.keep_ready(key);
             }
             Progress::Work(work) => self.put(Item {
@@ -265,14 +306,56 @@ impl<S: Socket> Connections<S> {
         connection.is_held_up()
     }
 
-    /// Lets those go whose time is over, and goes on with those that had to wait for memory. The cost
-    /// is linear in the connections.
+    /// The one that is let go first for the memory that is held for it. The cost is linear in the
+    /// connections.
+    fn first_holder(&self, now: u64) -> Option<Holder> {
+        let mut first = None;
+        for key in 0..self.slab.capacity() {
+            if let Some(connection) = self.slab.get(key) {
+                first = first_to_free(first, connection.holder(&self.limits, key, now));
+            }
+        }
+        first
+    }
+
+    /// Lets stalled ones go where others had no room, 64 at most, and one that is kept waiting if there
+    /// is no other.
+    fn free_memory(&mut self, now: u64) {
+        let Some(wanted) = self.short.take() else {
+            return;
+        };
+        for _ in 0..LET_GO {
+            if !self.limits.must_let_go(self.held, wanted) {
+                return;
+            }
+            let Some(holder) = self.first_holder(now) else {
+                return;
+            };
+            self.let_go(holder.key);
+            if holder.is_kept {
+                return;
+            }
+        }
+    }
+
+    /// Lets those go whose time is over, and stalled ones where others had no room; then goes on with
+    /// those that had to wait for memory. The cost is linear in the connections, for each one that is
+    /// let go for its memory.
     pub fn sweep(&mut self, now: u64) {
+        self.free_memory(now);
         for key in 0..self.slab.capacity() {
             if self.is_due(key, now) {
                 self.pump(key, now);
             }
         }
+    }
+
+    /// Closes one, and forgets it.
+    fn let_go(&mut self, key: usize) {
+        if let Some(connection) = self.slab.get_mut(key) {
+            connection.close();
+        }
+        self.forget(key);
     }
 
     /// Lets one go for a new one, if as many are there as may be, and says whether there is room: the
@@ -293,10 +376,7 @@ impl<S: Socket> Connections<S> {
         let Some(candidate) = first else {
             return false;
         };
-        if let Some(connection) = self.slab.get_mut(candidate.key) {
-            connection.close();
-        }
-        self.forget(candidate.key);
+        self.let_go(candidate.key);
         self.slab.len() < self.limits.connections
     }
 }

@@ -33,6 +33,17 @@ pub enum Outcome {
     Nothing,
 }
 
+impl Outcome {
+    /// How many bytes of memory are held for it.
+    pub(crate) fn held(&self) -> usize {
+        match self {
+            Outcome::Reply(reply) => reply.body.capacity(),
+            Outcome::Text(text) => text.capacity(),
+            Outcome::Nothing => 0,
+        }
+    }
+}
+
 /// What comes of the item of a connection, by its key.
 #[derive(Debug, Drop)]
 pub struct Answer {

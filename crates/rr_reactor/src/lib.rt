@@ -16,7 +16,14 @@
 //! long is let go ([`Stage`], [`Limits`]), and the one that was idle longest where a new one needs
 //! its place. Where a queue is behind, a request is answered 503 at once.
 //!
-//! [`Limits`], [`Stage`] and [`Watch`] are functions of moments and counts, with contracts. Of
+//! The memory of connections is bounded by [`Limits::held`], but for 8 KiB that each may send besides,
+//! and its answers of at most 8 KiB, of which some 64 KiB may wait. A connection is read while it
+//! holds at most a quarter of what is free, and a longer answer that doesn't fit is answered 503.
+//! Where one had no room so, stalled connections are let go within a second, first the one that holds
+//! most ([`Pace`], [`Holder`]): nothing moves, or too little, and no item of it is out. One that takes
+//! or brings enough in time isn't.
+//!
+//! [`Limits`], [`Stage`], [`Watch`] and [`Pace`] are functions of moments and counts, with contracts. Of
 //! sockets and threads nothing is known, so what serves them is proved to be safe, and that a
 //! connection gives an item only where none is out.
 #![tactic(auto)]
@@ -26,6 +33,7 @@ mod connection;
 mod connections;
 mod item;
 mod limits;
+mod pace;
 mod protocol;
 mod queue;
 mod queues;
@@ -37,6 +45,7 @@ pub use connection::Connection;
 pub use connections::{Asked, Connections};
 pub use item::{Answer, Item, Outcome, Work};
 pub use limits::Limits;
+pub use pace::{Holder, Pace};
 pub use protocol::Protocol;
 pub use queue::Queue;
 pub use queues::Queues;

@@ -1,7 +1,7 @@
 //! What connections may take.
 
 ghost use Rattle.std.specs.Prelude.{◌≡◌};
-ghost use Rattle.rr_reactor.specs.Limits.{is_behind, may_read};
+ghost use Rattle.rr_reactor.specs.Limits.{free, is_behind, may_read, must_let_go, takes};
 
 /// What the connections of a reactor may take. Times are in milliseconds.
 #[derive(Clone, Copy, Debug, PartialEq, Eq)]
@@ -10,7 +10,7 @@ pub struct Limits {
     pub connections: usize,
     /// How many bytes a body may have.
     pub body: usize,
-    /// Where this much memory is held for all connections, those that hold some are not read.
+    /// How many bytes of memory may be held for all connections.
     pub held: usize,
     /// How long a connection may be silent between two requests, or between the bytes of lines.
     pub idle: u64,
@@ -20,40 +20,76 @@ pub struct Limits {
     pub upload: u64,
     /// How long a client may take to receive what is to be sent.
     pub download: u64,
+    /// How long a connection may take to move a sixteenth of the memory that is held for it. After that
+    /// it is stalled, and may be let go where there is no room for others.
+    pub stall: u64,
     /// A queue in which more bytes than this wait is behind.
     pub waiting: usize,
     /// A queue whose first item has waited for longer than this is behind.
     pub wait: u64,
 }
 
-/// A connection that holds no more memory than this is always read.
+/// A connection that holds no more memory than this is always read, and an answer that takes no more
+/// is always sent.
 pub(crate) const SMALL: usize = 8 * 1024;
 
 const _: () = prove!(SMALL == 8_192);
 
+/// A connection that is read may hold this part of what is free. With a body of 8 MiB, whose buffer
+/// may be twice as large, one that isn't read then finds less than this part of all free.
+const PART: usize = 4;
+
+const _: () = prove!(PART == 4);
+
 impl Limits {
-    /// 4,096 connections, 8 MiB of a body, 64 MiB in all; 60 seconds of silence, 10 for a head, 30
-    /// for a body and for an answer; a queue is behind with 32 MiB, or after 2 seconds.
+    /// 4,096 connections, 8 MiB of a body, 256 MiB in all, which any answer fits in; 60 seconds of
+    /// silence, 10 for a head, 30 for a body and for an answer, 2 for a sixteenth of it; a queue is
+    /// behind with 32 MiB, or after 2 seconds.
     pub fn usual() -> Limits {
         Limits {
             connections: 4_096,
             body: 8 * 1024 * 1024,
-            held: 64 * 1024 * 1024,
+            held: 256 * 1024 * 1024,
             idle: 60_000,
             head: 10_000,
             upload: 30_000,
             download: 30_000,
+            stall: 2_000,
             waiting: 32 * 1024 * 1024,
             wait: 2_000,
         }
     }
 
-    /// Whether a connection for which `own` bytes of memory are held may be read, where `all` are
-    /// held for all of them.
-    pub fn may_read(&self, all: usize, own: usize) -> bool
+    /// How many bytes are free, where `all` are held.
+    fn free(&self, all: usize) -> usize
+        ensures { result ≡ free self.now all }
+    {
+        self.held.saturating_sub(all)
+    }
+
+    /// How many bytes may be read at once for a connection that holds `own` bytes of memory, where all
+    /// hold `all`: as many as a quarter of what is free, or 8 KiB if that is more. None if it holds
+    /// more than that already. So many connections leave as much free as four of them hold.
+    pub fn may_read(&self, all: usize, own: usize) -> usize
         ensures { result ≡ may_read self.now all own }
     {
-        all < self.held || own <= SMALL
+        let share = (self.free(all) / PART).max(SMALL);
+        if own <= share { share } else { 0 }
+    }
+
+    /// Whether an answer of `size` bytes is sent, where `all` are held: it fits, or has at most 8 KiB.
+    pub fn takes(&self, all: usize, size: usize) -> bool
+        ensures { result ≡ takes self.now all size }
+    {
+        size <= self.free(all) || size <= SMALL
+    }
+
+    /// Whether stalled connections are let go, where `all` bytes are held, some had no room, and an
+    /// answer of `wanted` bytes didn't fit: until that would, and a quarter of the limit is free.
+    pub fn must_let_go(&self, all: usize, wanted: usize) -> bool
+        ensures { result ≡ must_let_go self.now all wanted }
+    {
+        self.free(all) < wanted.max(self.held / PART)
     }
 
     /// Whether a queue is behind, in which `bytes` bytes wait, and the first item for `wait`.
