@@ -71,19 +71,24 @@ class Follower(Node):
         return super().start()
 
 
+def ask(node, target):
+    """What a node answers to a request on a connection of its own."""
+    node.connection.close()
+    node.connection.request("GET", target)
+    return node.connection.getresponse().read()
+
+
 def answered(node, series, minute):
     """Whether the node answers with a value for the minute of a series."""
     start = START + minute * 60
     target = f"/fetch?cf=LAST&resolution=60&start={start}&end={start + 60}&key=meter%2Cunit%3Du{series}%20kwh"
-    node.connection.request("GET", target)
-    text = node.connection.getresponse().read()
+    text = ask(node, target)
     return bool(text.strip()) and not text.strip().endswith(b",U")
 
 
 def cells(node):
     """How many cells a node says that it holds."""
-    node.connection.request("GET", "/metrics")
-    for line in node.connection.getresponse().read().decode().splitlines():
+    for line in ask(node, "/metrics").decode().splitlines():
         if line.startswith("rr_cells "):
             return int(line.split()[1])
     return 0
@@ -93,6 +98,7 @@ def new_samples(first, second, between, minute):
     """The seconds until a body's last sample is answered by the other node, and the bytes between them."""
     text = next(bodies(1_000, minute, 1))
     before = between.bytes
+    first.connection.close()
     first.write(text)
     began = time.perf_counter()
     while not answered(second, 999, minute):
