@@ -12,10 +12,10 @@
 //!                                        └── each: header ─> place ─> records ─> end
 //! ```
 //!
-//! Before that, [`last_origin`] goes through the same files, so that a node can choose an origin that
-//! was never used. For an operator [`survey`] reads a file by itself, under the schema that
-//! [`schema_in`] finds in a header; [`push_report`], [`push_verdict`] and [`push_cell`] say in a line
-//! each what a file has, whether the files join, and a cell.
+//! Before that, [`last_origin`] goes through the journal's files among these, so that a node can
+//! choose an origin that was never used. For an operator [`survey`] reads a file by itself, under the
+//! schema that [`schema_in`] finds in a header; [`push_report`], [`push_verdict`] and [`push_cell`]
+//! say in a line each what a file has, whether the files join, and a cell.
 //!
 //! In `specs/` what files make of a replica is a function of their bytes, file after file
 //! (`Reading.antt`).

@@ -1,6 +1,6 @@
 //! The last origin of the files of a directory.
 ghost use Rattle.std.specs.Prelude.{◌≡◌, IfSome, None};
-ghost use Rattle.rr_directory.specs.Origins.{FindsLast, FindsOriginIn, last_origin_in, later, origin_after};
+ghost use Rattle.rr_directory.specs.Origins.{FindsLast, FindsOriginIn, last_origin_in, later, origin_after, origin_after_journal};
 
 use crate::directory::Directory;
 use crate::fault::{FileFault, Refusal};
@@ -20,7 +20,26 @@ fn later(origin: Option<Origin>, before: Option<Origin>) -> Option<Origin>
     }
 }
 
-/// The origin of a file's last record of one; the one before it, where the file has none.
+/// The origin of the last record of one in a file of the journal; the one before it, where the file
+/// has none.
+fn origin_in_journal<D: Directory>(
+    alloc: Global,
+    directory: &D,
+    name: FileName,
+    schema: &Schema,
+    before: Option<Origin>,
+) -> Result<Option<Origin>, FileFault>
+    ensures { IfSome (D.bytes directory.now) (λ of. FindsOriginIn
+        (origin_after_journal schema.now before name (of name)) result) }
+{
+    let mut input = Counted::new(directory.open(alloc, name)?);
+    let mut place = place_from(alloc, &mut input, schema, name)?;
+    let (_, origin) = rr_recovery::last_origin(alloc, &mut input, &mut place, schema)?;
+    Ok(later(origin, before))
+}
+
+/// The origin of a file's last record of one; the one before it, where the file has none, as a
+/// checkpoint hasn't.
 fn origin_in<D: Directory>(
     alloc: Global,
     directory: &D,
@@ -31,18 +50,20 @@ fn origin_in<D: Directory>(
     ensures { IfSome (D.bytes directory.now) (λ of. FindsOriginIn
         (origin_after schema.now before name (of name)) result) }
 {
-    let mut input = Counted::new(directory.open(alloc, name)?);
-    let mut place = place_from(alloc, &mut input, schema, name)?;
-    let (_, origin) = rr_recovery::last_origin(alloc, &mut input, &mut place, schema)?;
-    Ok(later(origin, before))
+    match name {
+        FileName::Checkpoint(_) => Ok(before),
+        FileName::Journal(_) => origin_in_journal(alloc, directory, name, schema, before),
+    }
 }
 
-/// The origin of the last record of one in files, as [`start_of`](crate::start_of) gives them, so
-/// that a node can choose a new one before it recovers. Cells aren't looked at, nor is whether the
-/// files join.
+/// The origin of the last record of one in the journal's files, of files as
+/// [`start_of`](crate::start_of) gives them, so that a node can choose a new one before it recovers.
+/// A checkpoint isn't opened: origins are recorded in the journal alone, and the file that begins
+/// where a checkpoint does has the one that was written under then. Cells aren't looked at, nor is
+/// whether the files join; [`recover`](crate::recover) refuses an origin that any record or cell has.
 ///
-/// Refused at the first file whose header is refused, or that has a record of an origin which means
-/// none. The cost is linear in the bytes.
+/// Refused at the first file of the journal whose header is refused, or that has a record of an
+/// origin which means none. The cost is linear in the bytes of the journal's files.
 pub fn last_origin<D: Directory>(
     alloc: Global,
     directory: &D,

@@ -20,8 +20,13 @@ use Rattle.rr_journal.specs.declared.group.Group.{Group}
 use Rattle.rr_journal.specs.Body.{PackedCells, packed_cells}
 use Rattle.rr_recovery.specs.declared.fault.RecoveryFault.{RecoveryFault}
 use Rattle.rr_recovery.specs.declared.fault.RecoveryFault.TheVariants.{OriginUsed, Memory}
+use Rattle.rr_recovery.specs.Found.{FoundState}
 use Rattle.rr_recovery.specs.Joining.{JoinsSome, cells_read, group_cells, named_by, with_all}
 use Rattle.rr_recovery.specs.Taking.{IsCheckedGroup, Recovery, taken_cells, with_one}
+
+-- what was recovered, by its parts
+abbrev pub recovery_of : ReplicaState → FoundState → Recovery
+recovery_of replica found = record { replica = replica; found = found }
 
 -- ---- cells that were joined
 

@@ -10,7 +10,7 @@
 //! synced is there, whatever a crash left behind it.
 //!
 //! ```text
-//! file ── read_record ─> record ── decode ─> groups ── Decoder ─> cell ── join_cell ─> replica
+//! file ── read_record ─> record ── decode ─> groups ── Decoder ─> cell ── join_cell_numbered ─> replica
 //!                                 └─> origin, cursor, end ─> Found
 //! ```
 #![tactic(auto)]

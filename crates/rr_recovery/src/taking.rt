@@ -1,5 +1,5 @@
 //! What a record makes of a replica.
-ghost use Rattle.std.specs.Prelude.{◌≡◌, ◌<◌, [], ◌∷◌, length, map, IfOk, IsTrue};
+ghost use Rattle.std.specs.Prelude.{◌≡◌, ◌<◌, [], ◌∷◌, length, map, slice_get, Some, IfOk, IsTrue};
 ghost use Rattle.std.specs.List.{flat_map, AllByRecursion};
 ghost use Rattle.rr_cells.specs.Listing.{owned_cell};
 ghost use Rattle.rr_contrib.specs.Validity.{is_valid};
@@ -33,9 +33,10 @@ fn cell_of(group: &Group, cell: &(i64, Entry)) -> Result<Cell, AllocError>
     })
 }
 
-/// Joins a cell of a group, unless it is of the replica's own origin.
+/// Joins a cell of a group, whose series has this number, unless it is of the replica's own origin.
 fn take_cell<A: Cells>(
     group: &Group,
+    series: usize,
     cell: &(i64, Entry),
     replica: &mut Replica<A>,
     found: &mut Found,
@@ -43,22 +44,47 @@ fn take_cell<A: Cells>(
     requires archive { group.now.archive < length replica.old.schema.archives }
     requires valid { IsTrue (is_valid replica.old.schema group.now.archive cell.now.0
         cell.now.1.contribution) }
-    ensures { Takes (recovery replica.old found.old) (recovery replica.new found.new)
+    requires series { slice_get replica.old.keys series ≡ Some group.now.key }
+    ensures taken { Takes (recovery replica.old found.old) (recovery replica.new found.new)
         (taken_cells (recovery replica.old found.old)
         (named_by group.now.key group.now.archive cell.now ∷ [])) result }
+    ensures keys { replica.new.keys ≡ replica.old.keys }
 {
     if cell.1.origin == replica.origin() {
         return Err(RecoveryFault::OriginUsed);
     }
+    // The proof needs what the key and the origin keep to, which these ensure.
+    let _text = group.key.text();
+    let _number = cell.1.origin.get();
     let cell = cell_of(group, cell)?;
-    // The proof needs that this is a cell of the schema.
-    let _is_of = cell.is_of(replica.schema());
-    replica.join_cell(&cell)?;
+    replica.join_cell_numbered(series, &cell)?;
     found.cells = found.cells.saturating_add(1);
     Ok(())
 }
 
-/// Joins the cells of a group, one by one, up to the first of the replica's own origin.
+/// Joins the cells of a group, whose series has this number, one by one, up to the first of the
+/// replica's own origin.
+fn take_cells<A: Cells>(
+    group: &Group,
+    series: usize,
+    replica: &mut Replica<A>,
+    found: &mut Found,
+) -> Result<(), RecoveryFault>
+    requires checked { IsCheckedGroup replica.old.schema (packed_cells group.now) }
+    requires series { slice_get replica.old.keys series ≡ Some group.now.key }
+    ensures { Takes (recovery replica.old found.old) (recovery replica.new found.new)
+        (taken_cells (recovery replica.old found.old) (group_cells (packed_cells group.now)))
+        result }
+{
+    let mut cells = Decoder::new(&group.packed)?;
+    while let Some(cell) = cells.next()? {
+        take_cell(group, series, &cell, replica, found)?;
+    }
+    Ok(())
+}
+
+/// Joins the cells of a group, up to the first of the replica's own origin. The series is looked for
+/// once.
 fn take_group<A: Cells>(
     group: &Group,
     replica: &mut Replica<A>,
@@ -69,11 +95,8 @@ fn take_group<A: Cells>(
         (taken_cells (recovery replica.old found.old) (group_cells (packed_cells group.now)))
         result }
 {
-    let mut cells = Decoder::new(&group.packed)?;
-    while let Some(cell) = cells.next()? {
-        take_cell(group, &cell, replica, found)?;
-    }
-    Ok(())
+    let series = replica.series_of(&group.key)?;
+    take_cells(group, series, replica, found)
 }
 
 /// Joins the cells of groups, in order.

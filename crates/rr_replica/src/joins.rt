@@ -1,5 +1,5 @@
 //! Cells from elsewhere, joined into the archives of their keys.
-ghost use Rattle.std.specs.Prelude.{◌≡◌, ◌≤◌, true};
+ghost use Rattle.std.specs.Prelude.{◌≡◌, ◌≤◌, true, Some, slice_get};
 ghost use Rattle.rr_text.specs.declared.limits.TheConstants.{MAX_NUMBER};
 ghost use Rattle.rr_cells.specs.Cells.{IsTrimmed};
 ghost use Rattle.rr_cells.specs.Joining.{next_after};
@@ -15,6 +15,25 @@ use rr_archive::Cells;
 use rr_cells::{Cell, Op};
 use rr_schema::{Origin, Schema};
 use std::alloc::{AllocError, Global};
+
+/// Joins a cell into the archives of its key, whose series has this number, or into none.
+#[inline(always)]
+pub(crate) fn join_at<A: Cells>(
+    series: &mut SeriesMap<A>,
+    schema: &Schema,
+    index: usize,
+    cell: &Cell,
+) -> Result<(), AllocError>
+    requires suits { SuitsEntries A.row_limit schema.now (Op.Join cell.now)
+        (entries_of series.old) }
+    requires live { IsTrimmed schema.now (cells_of (held_series A.cells (entries_of series.old))) }
+    requires key { slice_get series.old.keys.items index ≡ Some cell.now.key }
+    ensures cell { JoinsCell A.cells A.row_limit A.is_ready schema.now cell.now
+        (entries_of series.old) (entries_of series.new) result }
+    ensures keys { series.new.keys.items ≡ series.old.keys.items }
+{
+    join_into(&mut series.archives[index], schema, cell)
+}
 
 /// Joins a cell into the archives of its key, or into none.
 pub(crate) fn join_in<A: Cells>(
@@ -32,7 +51,7 @@ pub(crate) fn join_in<A: Cells>(
         → series.new.keys.items ≡ series.old.keys.items }
 {
     match series.find(&cell.key) {
-        Some(index) => join_into(&mut series.archives[index], schema, cell),
+        Some(index) => join_at(series, schema, index, cell),
         None => {
             let mut archives = empty_archives(alloc, schema)?;
             join_into(&mut archives, schema, cell)?;

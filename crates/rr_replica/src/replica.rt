@@ -17,7 +17,7 @@ ghost use Rattle.rr_replica.specs.Becomes.{Becomes};
 use crate::copies::copy_series;
 use crate::fault::{JoinFault, PutFault};
 use crate::hint::Hint;
-use crate::joins::{join_in, next_after};
+use crate::joins::{join_at, join_in, next_after};
 use crate::room::{add_key_in, make_room_in};
 use crate::samples::{store_at, store_by_key};
 use crate::series::SeriesMap;
@@ -232,6 +232,19 @@ impl<A: Cells> Replica<A> {
         ensures added { OnOk result (self.new.keys ≡ with_key self.old.keys key.now) }
         ensures same_keys { OnErr result (self.new.keys ≡ self.old.keys) }
     {
+        self.series_of(key)?;
+        Ok(())
+    }
+
+    /// The number of the series of a key: they are counted from 0 in the order in which their keys
+    /// came. A key that the replica lacks is added without a cell. The cost is one look-up of the
+    /// key.
+    pub fn series_of(&mut self, key: &SeriesKey) -> Result<usize, AllocError>
+        ensures unchanged { replica_state self.new ≡ replica_state self.old }
+        ensures number { IfOk result (λ i. slice_get self.new.keys i ≡ Some key.now) }
+        ensures added { OnOk result (self.new.keys ≡ with_key self.old.keys key.now) }
+        ensures same_keys { OnErr result (self.new.keys ≡ self.old.keys) }
+    {
         add_key_in(&mut self.series, self.alloc, &self.schema, key)
     }
 
@@ -317,17 +330,15 @@ impl<A: Archive> Replica<A> {
 }
 
 impl<A: Cells> Replica<A> {
+    ghost use Rattle.rr_cells.specs.Joining.{with_cell, with_cells};
+    ghost use Rattle.rr_replica.specs.Joining.{IsAfterJoined, IsJoinedWith};
+
     /// Whether fewer numbers are left than these.
     pub fn lacks_numbers(&self, count: usize) -> bool
         ensures { result ≡ lacks_numbers (replica_state self.now) count }
     {
         MAX_NUMBER + 1 - self.next < count as u64
     }
-}
-
-impl<A: Cells> Replica<A> {
-    ghost use Rattle.rr_cells.specs.Joining.{with_cell, with_cells};
-    ghost use Rattle.rr_replica.specs.Joining.{IsAfterJoined, IsJoinedWith};
 
     /// Joins a cell from elsewhere, which is valid under the schema: of it and what stands at its
     /// name the greater stays, and then only the live cells. A cell of the replica's own origin,
@@ -344,6 +355,19 @@ impl<A: Cells> Replica<A> {
         ensures keys { knows self.old.keys cell.now.key ≡ true → self.new.keys ≡ self.old.keys }
     {
         join_in(&mut self.series, self.alloc, &self.schema, cell)?;
+        self.next = next_after(self.origin, self.next, cell);
+        Ok(())
+    }
+
+    /// Joins a cell as [`Replica::join_cell`] does, where its series is told by its number, as
+    /// [`Replica::series_of`] gives it. No key is looked for.
+    pub fn join_cell_numbered(&mut self, series: usize, cell: &Cell) -> Result<(), AllocError>
+        requires cell { IsCellOf self.old.schema (owned_cell cell.now) }
+        requires key { slice_get self.old.keys series ≡ Some cell.now.key }
+        ensures { BecomesInRoom (HasRoomFor self.old (Op.Join cell.now))
+            (with_cell (replica_state self.old) cell.now) self.old self.new result }
+    {
+        join_at(&mut self.series, &self.schema, series, cell)?;
         self.next = next_after(self.origin, self.next, cell);
         Ok(())
     }

@@ -48,13 +48,13 @@ pub(crate) fn make_room_in<A: Cells>(
     }
 }
 
-/// Adds a key with archives that hold no cell, unless it is known.
+/// Adds a key with archives that hold no cell, unless it is known, and says which series it is.
 pub(crate) fn add_key_in<A: Cells>(
     series: &mut SeriesMap<A>,
     alloc: Global,
     schema: &Schema,
     key: &SeriesKey,
-) -> Result<(), AllocError>
+) -> Result<usize, AllocError>
     requires sized { AreAllSized A.row_limit schema.now (entries_of series.old) }
     ensures unchanged { cells_of (held_series A.cells (entries_of series.new))
         ≡ cells_of (held_series A.cells (entries_of series.old)) }
@@ -62,13 +62,15 @@ pub(crate) fn add_key_in<A: Cells>(
     ensures added { OnOk result (series.new.keys.items
         ≡ with_key series.old.keys.items key.now) }
     ensures same_keys { OnErr result (series.new.keys.items ≡ series.old.keys.items) }
+    ensures key { IfOk result (λ i. slice_get series.new.keys.items i ≡ Some key.now) }
 {
     match series.find(key) {
-        Some(_) => Ok(()),
+        Some(index) => Ok(index),
         None => {
             let archives = empty_archives(alloc, schema)?;
+            let index = series.keys.len();
             series.insert(key, archives)?;
-            Ok(())
+            Ok(index)
         }
     }
 }

@@ -1,7 +1,7 @@
-use Rattle.std.proofs.Common.{◌≡◌, None, sym, ◌∙◌}
+use Rattle.std.proofs.Common.{rules, ◌≡◌, None, slice_get, sym, ap, ◌∙◌}
 use Rattle.rr_replica.specs.Indexed.{index_of}
 use Rattle.rr_replica.specs.SeriesMap.{entries_of}
-use Rattle.rr_replica.proofs.IndexedLemmas.{archives_nowhere, entries_ordered}
+use Rattle.rr_replica.proofs.IndexedLemmas.{archives_nowhere, at_end, entries_ordered, key_at}
 use Rattle.rr_replica.proofs.JoinedCell.{before_fresh}
 use Rattle.rr_replica.proofs.NumberedLemmas.{known, unknown, with_new}
 use Rattle.rr_replica.proofs.Shown.{cells_same}
@@ -31,3 +31,14 @@ returns-in_ok-insert-in-None-clause-added g c =
     let key = c.args.key.now in
     let absent : None ≡ index_of m.indices.entries key = c.in-None.ensures in
     c.in_ok-insert-in-None.ensures.keys ∙ sym (with_new m.keys.items key (unknown m.indexed key absent))
+
+pub returns-in-Some-clause-key : goal.returns-in-Some-clause-key
+returns-in-Some-clause-key g c =
+    let m = c.args.series.now in
+    key_at m.keys.items m.indices.entries m.indexed.there c.args.key.now _ (sym c.in-Some.ensures)
+
+pub returns-in_ok-insert-in-None-clause-key : goal.returns-in_ok-insert-in-None-clause-key
+returns-in_ok-insert-in-None-clause-key g c =
+    let keys = c.args.series.now.keys.items in
+    ap (λ ks. slice_get ks c.len-index.result) c.in_ok-insert-in-None.ensures.keys
+    ∙ at_end keys c.len-index.result c.args.key.now (search rules)

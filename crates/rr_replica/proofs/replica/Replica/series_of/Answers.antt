@@ -1,7 +1,7 @@
 use Rattle.rr_replica.specs.SeriesMap.{entries_of}
 use Rattle.rr_replica.proofs.InMemoryLemmas.{kept_same}
 use Rattle.rr_replica.proofs.IndexedLemmas.{entries_ordered}
-use Rattle.rr_replica.proofs.replica.Replica.add_key.Goals as goal
+use Rattle.rr_replica.proofs.replica.Replica.series_of.Goals as goal
 
 pub invariant_of-self : goal.invariant_of-self
 invariant_of-self g c =
