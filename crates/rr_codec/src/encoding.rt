@@ -1,12 +1,13 @@
 //! Packed cells, written.
-ghost use Rattle.std.specs.Prelude.{◌≡◌, ℕ, ◌<◌, ◌≤◌, ◌+◌, ◌*◌, ◌^◌, ◌++◌, [], IfOk, OnOk, Ok, length};
+ghost use Rattle.std.specs.Prelude.{◌≡◌, ℕ, ◌<◌, ◌≤◌, ◌+◌, ◌*◌, ◌^◌, ◌++◌, [], All, IfOk, OnOk, Ok, length};
 ghost use Rattle.rr_codec.specs.Fields.{IsTyped, fields_of};
 ghost use Rattle.rr_codec.specs.Reading.{packed_at};
-ghost use Rattle.rr_codec.specs.Text.{cell_text, next_known, packed_text};
+ghost use Rattle.rr_codec.specs.Recent.{nothing_known};
+ghost use Rattle.rr_codec.specs.Text.{cell_text, cells_text, next_known, packed_text};
 
 use crate::fields::fields_of;
 use crate::number::push_number;
-use crate::recent::Known;
+use crate::recent::{Known, first_steps};
 use crate::steps::push_steps;
 use rr_archive::Entry;
 use std::alloc::{AllocError, Global};
@@ -47,6 +48,41 @@ fn push_cell(bytes: &mut Vec<u8>, known: &mut Known, cell: &(i64, Entry)) -> Res
     Ok(())
 }
 
+/// Adds the first cell.
+fn push_first(bytes: &mut Vec<u8>, span: u128, cell: &(i64, Entry)) -> Result<(), AllocError>
+    ensures added { OnOk result (bytes.new.items
+        ≡ bytes.old.items ++ cell_text (nothing_known span) cell.now) }
+    ensures typed { OnOk result (IsTyped cell.now) }
+{
+    let fields = fields_of(cell);
+    push_steps(bytes, &first_steps(span, &fields))
+}
+
+/// Adds cells one after the other.
+fn push_each(bytes: &mut Vec<u8>, span: u128, cells: &[(i64, Entry)]) -> Result<(), AllocError>
+    ensures added { OnOk result (bytes.new.items
+        ≡ bytes.old.items ++ cells_text (nothing_known span) cells.now) }
+    ensures typed { OnOk result (All IsTyped cells.now) }
+{
+    let mut known = Known::new(span);
+    for cell in cells {
+        push_cell(bytes, &mut known, cell)?;
+    }
+    Ok(())
+}
+
+/// Adds cells. For one alone no room is made for what would be known before others.
+fn push_cells(bytes: &mut Vec<u8>, span: u128, cells: &[(i64, Entry)]) -> Result<(), AllocError>
+    ensures added { OnOk result (bytes.new.items
+        ≡ bytes.old.items ++ cells_text (nothing_known span) cells.now) }
+    ensures typed { OnOk result (All IsTyped cells.now) }
+{
+    if cells.len() == 1 {
+        return push_first(bytes, span, &cells[0]);
+    }
+    push_each(bytes, span, cells)
+}
+
 /// The cells of an archive as packed bytes, fewer than 2^32 of them. They are read again as these,
 /// whatever follows them. The cost is linear in the cells, and for each in the origins of those
 /// before it, of which 16 are looked at.
@@ -65,9 +101,6 @@ pub fn encode(alloc: Global, cells: &[(i64, Entry)]) -> Result<Vec<u8>, AllocErr
     let span = guessed_span(cells);
     push_number(&mut bytes, cells.len() as u128)?;
     push_number(&mut bytes, span)?;
-    let mut known = Known::new(span);
-    for cell in cells {
-        push_cell(&mut bytes, &mut known, cell)?;
-    }
+    push_cells(&mut bytes, span, cells)?;
     Ok(bytes)
 }

@@ -80,6 +80,17 @@ fn take_out(recent: &mut Recent, place: usize)
     }
 }
 
+/// The steps to the fields of the first cell, in rows of `span` nanoseconds.
+#[tactic(auto, unfolding(crate::specs::Recent::known_steps))]
+pub(crate) fn first_steps(span: u128, cell: &Fields) -> Steps
+    ensures { result ≡ known_steps (nothing_known span) cell.now }
+{
+    Steps {
+        place: step_to(0, 0),
+        fields: Before::start().steps_to(span, cell),
+    }
+}
+
 impl Known {
     /// What is known before the first cell, in rows of `span` nanoseconds.
     pub(crate) fn new(span: u128) -> Known

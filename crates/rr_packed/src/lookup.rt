@@ -42,7 +42,7 @@ impl Blocks {
     }
 
     /// The entry of a slot by its number there, from 0.
-    fn nth_entry(&self, slot: i64, i: usize) -> Option<Entry>
+    pub(crate) fn nth_entry(&self, slot: i64, i: usize) -> Option<Entry>
         ensures { result ≡ slice_get (row_at self.now slot) i }
     {
         let number = block_of(slot);

@@ -1,7 +1,11 @@
 //! An archive of packed rows.
-ghost use Rattle.std.specs.Prelude.{◌≤◌, IsTrue, OnOk};
+ghost use Rattle.std.specs.Prelude.{◌≡◌, ◌≤◌, IsTrue, OnOk};
 ghost use Rattle.std.proofs.Props.{props};
+ghost use Rattle.std.specs.FinMap.{entries};
+ghost use Rattle.std.specs.List.{slice_get};
+ghost use Rattle.std.specs.Option.{option_map};
 ghost use Rattle.rr_archive.specs.CellSlots.{cell_slot};
+ghost use Rattle.rr_archive.specs.Cells.{cell_of};
 ghost use Rattle.rr_archive.specs.Codes.{coded_rows};
 ghost use Rattle.rr_archive.specs.Stored.{CanTake, ChangesCell};
 ghost use Rattle.rr_join.specs.Horizon.{is_above};
@@ -47,9 +51,9 @@ use std::alloc::{AllocError, Global};
 /// the slots up to the first block. `cell_count` finds each block between the first and the last,
 /// there or not, and is linear in these, in the rows that are held as their entries, and in the
 /// cells of the first block if it is packed. `cell_at` finds the blocks up to that of the cell as
-/// `cell_count` does, and looks at each row before it in that block; `next_cell` looks at the rows
-/// from its slot on that have an entry, and is linear in the blocks between that aren't there, each
-/// at the cost of finding a block.
+/// `cell_count` does, and looks at each row before it in that block; `next_cell`, and `cell_at` for
+/// the first cell, look at the rows from a slot on that have an entry, and are linear in the blocks
+/// between that aren't there, each at the cost of finding a block.
 #[derive(Drop)]
 pub struct PackedArchive {
     rows: u32,
@@ -82,6 +86,26 @@ impl PackedArchive {
         self.blocks.drop_before(first_live(self.rows, newest));
         self.newest = Some(newest);
         Ok(())
+    }
+
+    /// The first cell. The rows before it are passed over by their masks, and no cell is counted.
+    fn first_cell(&self) -> Option<(i64, Entry)>
+        ensures { result ≡ option_map cell_of (slice_get
+            (entries (cells_in self.now.rows self.now.newest self.now.blocks)) 0) }
+    {
+        let Some(newest) = self.newest else {
+            return None;
+        };
+        let first = first_live(self.rows, newest);
+        let mut k = 0;
+        while k < self.rows {
+            let slot = first + i64::from(k);
+            if let Some(entry) = self.blocks.nth_entry(slot, 0) {
+                return Some((slot, entry));
+            }
+            k += self.blocks.slots_on(slot, self.rows - k);
+        }
+        None
     }
 }
 
@@ -164,6 +188,9 @@ impl Cells for PackedArchive {
     }
 
     fn cell_at(&self, i: usize) -> Option<(i64, Entry)> {
+        if i == 0 {
+            return self.first_cell();
+        }
         let Some(newest) = self.newest else {
             return None;
         };

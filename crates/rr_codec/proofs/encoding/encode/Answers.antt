@@ -1,44 +1,26 @@
-use Rattle.std.proofs.Common.{◌≡◌, ℕ, List, [], ◌++◌, ◌+◌, ◌*◌, ◌≤◌, All, get_or, drop, take, length, Ok, refl, sym, ap, subst, ◌∙◌, append_assoc, rules}
-use Rattle.std.proofs.lemmas.List.{drop_all, take_all, take_more, append-nil}
-use Rattle.std.proofs.lemmas.List.Elements.{All-push}
-use Rattle.rr_codec.specs.Fields.{IsTyped}
+use Rattle.std.proofs.Common.{◌≡◌, ℕ, List, [], ◌++◌, ◌+◌, ◌*◌, ◌≤◌, length, Ok, sym, ap, subst, ◌∙◌, append_assoc, rules}
+use Rattle.std.proofs.lemmas.List.{append-nil}
+use Rattle.rr_codec.specs.Numbers.{number_text}
 use Rattle.rr_codec.specs.Reading.{packed_at}
-use Rattle.rr_codec.specs.Recent.{KnownState}
-use Rattle.rr_codec.specs.Text.{cell_text, cells_text, next_known, packed_text}
-use Rattle.rr_codec.proofs.CellLemmas.{packed_again, texts_more}
+use Rattle.rr_codec.specs.Recent.{nothing_known}
+use Rattle.rr_codec.specs.Text.{cells_text, packed_text}
+use Rattle.rr_codec.proofs.CellLemmas.{packed_again}
 use Rattle.rr_codec.proofs.LengthLemmas.{packed_len}
 use Rattle.rr_codec.proofs.encoding.encode.Goals as goal
-
-pub loop-cell-preserved : goal.loop-cell-preserved
-loop-cell-preserved c =
-    let cells = c.args.cells.now in
-    let i = c.loop-cell.cell-index in
-    let cell = c.cell-item.result in
-    let k = c.loop-cell.known in
-    let item : get_or cells i cell ≡ cell = search rules in
-    let left = cells_text (next_known k cell) (drop (i + 1) cells) in
-    record {
-      added = ap (λ (n : KnownState). c.push_cell.new.bytes.items ++ cells_text n (drop (i + 1) cells))
-          c.in_ok-push_cell.ensures.next
-          ∙ ap (λ (l : List ℕ). l ++ left) c.in_ok-push_cell.ensures.added
-          ∙ append_assoc c.loop-cell.bytes.items (cell_text k cell) left
-          ∙ ap (λ (l : List ℕ). c.loop-cell.bytes.items ++ l)
-          (sym (texts_more k cells i cell c.loop-cell-test.true item))
-          ∙ c.loop-cell.invariant.added;
-      typed = rw (take_more cells i cell c.loop-cell-test.true, item)
-          (All-push IsTyped (take i cells) cell c.loop-cell.invariant.typed c.in_ok-push_cell.ensures.typed);
-    }
 
 pub returns : goal.returns
 returns c =
     let cells = c.args.cells.now in
-    let i = c.loop-cell.cell-index in
     let span = c.guessed_span-span.result in
-    let none : cells_text c.loop-cell.known (drop i cells) ≡ [] = rw (drop_all i cells c.loop-cell-test.false) refl in
-    let text : c.loop-cell.bytes.items ≡ packed_text span cells =
-    sym (append-nil c.loop-cell.bytes.items) ∙ ap (λ (l : List ℕ). c.loop-cell.bytes.items ++ l) (sym none)
-    ∙ c.loop-cell.invariant.added in
-    let typed : All IsTyped cells = rw (take_all i cells c.loop-cell-test.false) at c.loop-cell.invariant.typed in
+    let count = number_text (length cells) in
+    let each = cells_text (nothing_known span) cells in
+    let first : c.push_number.new.bytes.items ≡ count = search rules in
+    let second : c.push_number-2.new.bytes.items ≡ count ++ number_text span =
+    c.in_ok-push_number-2.ensures ∙ ap (λ (l : List ℕ). l ++ number_text span) first in
+    let text : c.push_cells.new.bytes.items ≡ packed_text span cells =
+    c.in_ok-push_cells.ensures.added ∙ ap (λ (l : List ℕ). l ++ each) second
+    ∙ append_assoc count (number_text span) each in
+    let typed = c.in_ok-push_cells.ensures.typed in
     record {
       read = subst (λ (l : List ℕ). packed_at l ≡ Ok (cells, [])) (append-nil (packed_text span cells) ∙ sym text)
           (packed_again span cells [] c.guessed_span-span.ensures c.requires typed);
