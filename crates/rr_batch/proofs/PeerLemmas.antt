@@ -30,7 +30,7 @@ cells_of_the_schema_are_joined k [] all = refl
 cells_of_the_schema_are_joined k (c ∷ cells) all =
     let taken : is_cell_of k.schema (owned_cell c) ≡ true = cell_is_taken k.schema (owned_cell c) all.0 in
     let here : joined_if k c ≡ with_pending k (Join c) =
-        ap (λ (b : Bool). if b then with_pending k (Join c) else k) taken in
+    ap (λ (b : Bool). if b then with_pending k (Join c) else k) taken in
     ap (λ (j : KeeperState). joined_to j cells) here
     ∙ cells_of_the_schema_are_joined (with_pending k (Join c)) cells all.1
 

@@ -20,12 +20,12 @@
 //! before the folder is synced too.
 #![tactic(auto)]
 
+mod bytes_at;
 mod directory;
 mod fault;
 mod folder;
 mod journal_file;
 mod lock;
-mod reading;
 
 pub use directory::{DataDirectory, DirectoryLock};
 pub use fault::OpenFault;

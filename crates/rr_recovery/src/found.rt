@@ -64,7 +64,7 @@ fn place_of(cursors: &[Cursor], cursor: &Cursor) -> Option<usize>
 
 /// Puts a cursor in place of that of its journal, or behind all. The cost is linear in the
 /// cursors.
-pub(crate) fn put_cursor(cursors: &mut Vec<Cursor>, cursor: Cursor) -> Result<(), AllocError>
+pub fn put_cursor(cursors: &mut Vec<Cursor>, cursor: Cursor) -> Result<(), AllocError>
     ensures { OnOk result (cursors.new.items ≡ with_cursor cursors.old.items cursor) }
 {
     match place_of(cursors, &cursor) {

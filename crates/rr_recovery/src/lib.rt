@@ -24,6 +24,6 @@ mod step;
 mod taking;
 
 pub use fault::RecoveryFault;
-pub use found::Found;
+pub use found::{Found, put_cursor};
 pub use origins::last_origin;
 pub use replaying::replay;

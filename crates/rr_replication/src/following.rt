@@ -12,6 +12,7 @@ use crate::records::read_part;
 use rr_cells::Cell;
 use rr_io::Counted;
 use rr_journal::{Cursor, ID_LEN, JournalFault, header_from, header_len};
+use rr_recovery::put_cursor;
 use rr_schema::Schema;
 use std::alloc::{AllocError, Global};
 
@@ -132,14 +133,7 @@ impl Following {
         let Some(Position::Journal(place)) = self.position else {
             return Ok(());
         };
-        for known in &mut self.known {
-            if known.id == place.id {
-                *known = place;
-                return Ok(());
-            }
-        }
-        self.known.push(place)?;
-        Ok(())
+        put_cursor(&mut self.known, place)
     }
 
     /// Takes the answer to a greeting: where the peer's journal is. Another one than before is begun

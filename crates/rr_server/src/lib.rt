@@ -34,7 +34,7 @@ mod tcp;
 mod tools;
 
 pub use clock::SystemClock;
-pub use node::{Checkpointing, JournalReading, PeerCalling};
+pub use node::{Checkpointing, JournalParts, PeerCalling};
 pub use program::run;
 pub use seats::TcpSeats;
 pub use shelf::FileShelf;

@@ -35,6 +35,6 @@ mod threads;
 mod worker;
 
 pub use checkpoints::Checkpointing;
-pub use giving::JournalReading;
+pub use giving::JournalParts;
 pub use peer::PeerCalling;
 pub(crate) use serving::serve_node_of;

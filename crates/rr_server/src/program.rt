@@ -1,7 +1,7 @@
 //! The order of a process's words, obeyed.
 
 use crate::journal::read_directory;
-use crate::node::{Checkpointing, JournalReading, PeerCalling, serve_node_of};
+use crate::node::{Checkpointing, JournalParts, PeerCalling, serve_node_of};
 use crate::server::Server;
 use rr_files::TryLock;
 use rr_process::{Ending, obey, read_order};
@@ -39,7 +39,7 @@ where
         + Env
         + Files
         + Checkpointing
-        + JournalReading
+        + JournalParts
         + PeerCalling
         + Input
         + Print

@@ -8,6 +8,7 @@ use rr_desk::Keeper;
 use rr_files::JournalFile;
 use rr_journal::Cursor;
 use rr_packed::PackedArchive;
+use rr_recovery::put_cursor;
 use rr_web::PeerNumbers;
 use std::alloc::{AllocError, Global};
 use std::fs::OpenFile;
@@ -101,18 +102,6 @@ impl Arrival {
             None => None,
         }
     }
-}
-
-/// Puts a cursor in place of that of its journal, or behind all.
-fn put_cursor(cursors: &mut Vec<Cursor>, cursor: Cursor) -> Result<(), AllocError> {
-    for known in cursors.iter_mut() {
-        if known.id == cursor.id {
-            *known = cursor;
-            return Ok(());
-        }
-    }
-    cursors.push(cursor)?;
-    Ok(())
 }
 
 impl Arrivals {

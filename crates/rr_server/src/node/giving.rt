@@ -2,7 +2,7 @@
 
 use crate::node::shared::Shared;
 use rr_connection::Reply;
-use rr_directory::{Directory, FileName};
+use rr_directory::{Directory, FileName, start_of};
 use rr_files::DataDirectory;
 use rr_journal::DECIMALS;
 use rr_replication::{MAX_PART, Part, part_from};
@@ -16,7 +16,7 @@ use std::sync::atomic::Ordering;
 
 /// Reads the files of a journal from threads of their own: see
 /// [`Checkpointing`](crate::node::Checkpointing).
-pub trait JournalReading {
+pub trait JournalParts {
     /// The bytes of the journal in the directory at a path that are given from an offset on. It is
     /// synced up to the offset `end`, and each of its files has a header of so many bytes.
     fn journal_part(
@@ -60,17 +60,12 @@ fn journal_offsets(alloc: Global, names: &[FileName]) -> Result<Vec<u64>, AllocE
     Ok(offsets)
 }
 
-/// The offset of the newest checkpoint.
-fn newest_checkpoint(names: &[FileName]) -> Option<u64> {
-    let mut newest = None;
-    for name in names {
-        if let FileName::Checkpoint(offset) = name
-            && newest <= Some(*offset)
-        {
-            newest = Some(*offset);
-        }
+/// The offset of the newest checkpoint, if there is one.
+fn newest_checkpoint(alloc: Global, names: &[FileName]) -> Result<Option<u64>, AllocError> {
+    match start_of(alloc, names)?.files.first() {
+        Some(FileName::Checkpoint(offset)) => Ok(Some(*offset)),
+        _ => Ok(None),
     }
-    newest
 }
 
 /// Bytes of a file, if it is there.
@@ -87,7 +82,7 @@ fn given<R: Files>(
     }
 }
 
-impl JournalReading for HostRuntime {
+impl JournalParts for HostRuntime {
     fn journal_part(
         &self,
         alloc: Global,
@@ -121,7 +116,7 @@ impl JournalReading for HostRuntime {
         let directory = DataDirectory::at(self, path);
         let begins = match begins {
             Some(begins) => Some(begins),
-            None => newest_checkpoint(&names_in(alloc, &directory)?),
+            None => newest_checkpoint(alloc, &names_in(alloc, &directory)?)?,
         };
         let Some(begins) = begins else {
             return Ok(Given::Gone);
@@ -190,7 +185,7 @@ impl Giver {
     }
 
     /// What is given of the journal.
-    fn journal<R: JournalReading>(&self, rt: &R, asked: &PartQuery, end: u64) -> io::Result<Given> {
+    fn journal<R: JournalParts>(&self, rt: &R, asked: &PartQuery, end: u64) -> io::Result<Given> {
         let Some(from) = asked.from else {
             return Ok(Given::Nothing);
         };
@@ -202,7 +197,7 @@ impl Giver {
 
     /// The answer to a request for the journal, or for a checkpoint. Where the journal is, is told to
     /// who asks for no bytes of it, and with bytes of it.
-    pub(crate) fn answer<R: JournalReading + Eprint>(
+    pub(crate) fn answer<R: JournalParts + Eprint>(
         &self,
         rt: &R,
         query: &[u8],

@@ -1,7 +1,7 @@
 //! Those who answer requests that read.
 
 use crate::clock::SystemClock;
-use crate::node::giving::{Giver, JournalReading};
+use crate::node::giving::{Giver, JournalParts};
 use crate::node::shared::{Answered, Shared};
 use rr_command_line::PRODUCT;
 use rr_connection::{Reply, Request};
@@ -39,7 +39,7 @@ impl Handler {
     }
 
     /// The answer to a request.
-    fn reply<T: JournalReading + Eprint + Wait + time::Clock>(
+    fn reply<T: JournalParts + Eprint + Wait + time::Clock>(
         &mut self,
         rt: &T,
         request: &Request,
@@ -82,7 +82,7 @@ impl Handler {
     }
 
     /// What comes of an item. Where memory runs out or a file can't be read, its connection is closed.
-    fn outcome<T: JournalReading + Eprint + Wait + time::Clock>(
+    fn outcome<T: JournalParts + Eprint + Wait + time::Clock>(
         &mut self,
         rt: &T,
         work: &Work,
@@ -97,7 +97,7 @@ impl Handler {
     }
 
     /// Answers an item.
-    fn answer<T: JournalReading + Eprint + Wait + time::Clock>(&mut self, rt: &T, item: &Item) {
+    fn answer<T: JournalParts + Eprint + Wait + time::Clock>(&mut self, rt: &T, item: &Item) {
         let outcome = self.outcome(rt, &item.work);
         let key = item.key;
         let answer = Answer { key, outcome };
@@ -108,7 +108,7 @@ impl Handler {
     }
 
     /// Answers what comes, until the node ends.
-    pub(crate) fn serve<T: JournalReading + Eprint + Wait + time::Clock>(&mut self, rt: &T) {
+    pub(crate) fn serve<T: JournalParts + Eprint + Wait + time::Clock>(&mut self, rt: &T) {
         for _ in 0..u64::MAX {
             let queues: &Queues = &self.shared.queues;
             match queues.fetches.take(rt, Duration::from_secs(1)) {

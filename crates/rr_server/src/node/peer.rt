@@ -15,7 +15,7 @@ use std::sync::Wait;
 use std::time::{Clock, Duration};
 
 /// For how many seconds a peer may send or take no byte, or not answer a call.
-const PATIENCE: u64 = 10;
+const TIMEOUT: u64 = 10;
 
 /// After a failure a peer is called again a second later, and after further ones 2, 4 and so on, up to
 /// this many.
@@ -83,12 +83,12 @@ impl Peer {
 
     /// A connection to the peer, which is to be greeted over it.
     fn connect<R: PeerCalling>(&mut self, rt: &R) -> Result<PeerConnection<Half, Half>, PeerFault> {
-        let limit = Duration::from_secs(PATIENCE);
+        let limit = Duration::from_secs(TIMEOUT);
         let Some(stream) = rt.call_peer(self.link.address.as_str(), limit) else {
             return Err(PeerFault::BadAddress);
         };
         let halt = &self.shared.halt;
-        let Some((input, output)) = halves(self.alloc, stream, Some(PATIENCE), halt) else {
+        let Some((input, output)) = halves(self.alloc, stream, Some(TIMEOUT), halt) else {
             return Err(PeerFault::BadAddress);
         };
         self.following.reconnect();

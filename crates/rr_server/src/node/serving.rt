@@ -7,7 +7,7 @@ use crate::files::read_node_config;
 use crate::greeting::node_greeting;
 use crate::node::arrivals::Arrivals;
 use crate::node::checkpoints::Checkpointing;
-use crate::node::giving::JournalReading;
+use crate::node::giving::JournalParts;
 use crate::node::keeping::Keeping;
 use crate::node::listening::listen;
 use crate::node::logbook::Logbook;
@@ -61,7 +61,7 @@ fn serve_all<C: Clock, R>(
 where
     R: Files
         + Checkpointing
-        + JournalReading
+        + JournalParts
         + PeerCalling
         + Eprint
         + Threads
@@ -97,7 +97,7 @@ where
     R: AllocGlobal
         + Files
         + Checkpointing
-        + JournalReading
+        + JournalParts
         + PeerCalling
         + Eprint
         + Threads
@@ -155,7 +155,7 @@ where
     R: AllocGlobal
         + Files
         + Checkpointing
-        + JournalReading
+        + JournalParts
         + PeerCalling
         + Eprint
         + Threads
@@ -203,7 +203,7 @@ where
     R: AllocGlobal
         + Files
         + Checkpointing
-        + JournalReading
+        + JournalParts
         + PeerCalling
         + Eprint
         + Net

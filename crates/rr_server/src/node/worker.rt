@@ -4,7 +4,7 @@ ghost use Rattle.std.specs.Thread.{IsSync};
 
 use crate::files::tell;
 use crate::node::checkpoints::{Checkpointing, Checkpoints};
-use crate::node::giving::JournalReading;
+use crate::node::giving::JournalParts;
 use crate::node::handler::Handler;
 use crate::node::peer::{Peer, PeerCalling};
 use crate::node::shared::Shared;
@@ -30,7 +30,7 @@ impl Worker {
     /// Works until the node ends.
     fn work<R>(&mut self, rt: &R)
     where
-        R: Checkpointing + JournalReading + PeerCalling + Eprint + Wait + Clock,
+        R: Checkpointing + JournalParts + PeerCalling + Eprint + Wait + Clock,
     {
         match self {
             Worker::Reactor(reactor) => {
@@ -48,7 +48,7 @@ impl Worker {
 /// Has each worker work on a thread of its own. Once one ends, all do.
 fn work_all<R>(rt: &R, workers: &mut [Worker], shared: &Shared)
 where
-    R: Checkpointing + JournalReading + PeerCalling + Eprint + Threads + Wait + Clock + Sync,
+    R: Checkpointing + JournalParts + PeerCalling + Eprint + Threads + Wait + Clock + Sync,
 {
     if workers.is_empty() {
         return;
@@ -79,7 +79,7 @@ impl Workers {
     /// Has each work on a thread of its own, until one ends or they are halted.
     pub(crate) fn work<R>(&mut self, rt: &R)
     where
-        R: Checkpointing + JournalReading + PeerCalling + Eprint + Threads + Wait + Clock + Sync,
+        R: Checkpointing + JournalParts + PeerCalling + Eprint + Threads + Wait + Clock + Sync,
     {
         work_all(rt, self.workers.as_mut_slice(), &self.shared);
     }

@@ -3,7 +3,7 @@
 use rr_desk::Reader;
 use rr_journal::Cursor;
 use rr_packed::PackedArchive;
-use rr_server::{Checkpointing, JournalReading, PeerCalling};
+use rr_server::{Checkpointing, JournalParts, PeerCalling};
 use rr_web::Given;
 use std::alloc::{Allocator, Global};
 use std::env::{Env, FillError};
@@ -208,7 +208,7 @@ impl<R: Checkpointing> Checkpointing for Process<'_, R> {
     }
 }
 
-impl<R: JournalReading> JournalReading for Process<'_, R> {
+impl<R: JournalParts> JournalParts for Process<'_, R> {
     fn journal_part(
         &self,
         alloc: Global,
