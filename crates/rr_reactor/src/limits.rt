@@ -1,7 +1,7 @@
 //! What connections may take.
 
 ghost use Rattle.std.specs.Prelude.{◌≡◌};
-ghost use Rattle.rr_reactor.specs.Limits.{free, is_behind, may_read, must_let_go, takes};
+ghost use Rattle.rr_reactor.specs.Limits.{free, is_behind, may_read, must_let_go, room, takes};
 
 /// What the connections of a reactor may take. Times are in milliseconds.
 #[derive(Clone, Copy, Debug, PartialEq, Eq)]
@@ -12,6 +12,8 @@ pub struct Limits {
     pub body: usize,
     /// How many bytes of memory may be held for all connections.
     pub held: usize,
+    /// Where so many of them are held, no more is received but for small connections.
+    pub received: usize,
     /// How long a connection may be silent between two requests, or between the bytes of lines.
     pub idle: u64,
     /// How long a client may take to send the head of a request.
@@ -35,21 +37,22 @@ pub(crate) const SMALL: usize = 8 * 1024;
 
 const _: () = prove!(SMALL == 8_192);
 
-/// A connection that is read may hold this part of what is free. With a body of 8 MiB, whose buffer
+/// A connection that is read may hold this part of the room that is left. With a body of 8 MiB, whose buffer
 /// may be twice as large, one that isn't read then finds less than this part of all free.
 const PART: usize = 4;
 
 const _: () = prove!(PART == 4);
 
 impl Limits {
-    /// 4,096 connections, 8 MiB of a body, 256 MiB in all, which any answer fits in; 60 seconds of
-    /// silence, 10 for a head, 30 for a body and for an answer, 2 for a sixteenth of it; a queue is
+    /// 4,096 connections, 8 MiB of a body, 256 MiB in all, which any answer fits in, and 128 MiB while
+    /// more is received; 60 seconds of silence, 10 for a head, 30 for a body and for an answer, 2 for a sixteenth of it; a queue is
     /// behind with 32 MiB, or after 2 seconds.
     pub fn usual() -> Limits {
         Limits {
             connections: 4_096,
             body: 8 * 1024 * 1024,
             held: 256 * 1024 * 1024,
+            received: 128 * 1024 * 1024,
             idle: 60_000,
             head: 10_000,
             upload: 30_000,
@@ -67,13 +70,20 @@ impl Limits {
         self.held.saturating_sub(all)
     }
 
+    /// How many bytes more may be received, where `all` are held.
+    fn room(&self, all: usize) -> usize
+        ensures { result ≡ room self.now all }
+    {
+        self.received.saturating_sub(all)
+    }
+
     /// How many bytes may be read at once for a connection that holds `own` bytes of memory, where all
-    /// hold `all`: as many as a quarter of what is free, or 8 KiB if that is more. None if it holds
-    /// more than that already. So many connections leave as much free as four of them hold.
+    /// hold `all`: as many as a quarter of the room that is left, or 8 KiB if that is more. None if it
+    /// holds more than that already. So many connections leave as much room as four of them hold.
     pub fn may_read(&self, all: usize, own: usize) -> usize
         ensures { result ≡ may_read self.now all own }
     {
-        let share = (self.free(all) / PART).max(SMALL);
+        let share = (self.room(all) / PART).max(SMALL);
         if own <= share { share } else { 0 }
     }
 
@@ -85,11 +95,11 @@ impl Limits {
     }
 
     /// Whether stalled connections are let go, where `all` bytes are held, some had no room, and an
-    /// answer of `wanted` bytes didn't fit: until that would, and a quarter of the limit is free.
+    /// answer of `wanted` bytes didn't fit: until that would, and a quarter of all room is left.
     pub fn must_let_go(&self, all: usize, wanted: usize) -> bool
         ensures { result ≡ must_let_go self.now all wanted }
     {
-        self.free(all) < wanted.max(self.held / PART)
+        self.free(all) < wanted || self.room(all) < self.received / PART
     }
 
     /// Whether a queue is behind, in which `bytes` bytes wait, and the first item for `wait`.

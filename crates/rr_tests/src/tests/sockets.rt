@@ -233,6 +233,7 @@ fn answer(
 fn narrow() -> Limits {
     Limits {
         held: 100_000,
+        received: 100_000,
         ..Limits::usual()
     }
 }
@@ -292,6 +293,7 @@ fn stalled_uploads_make_room_for_a_body(rt: HostRuntime) -> Result<(), Fail> {
     let alloc = rt.alloc();
     let limits = Limits {
         held: 640_000,
+        received: 640_000,
         ..Limits::usual()
     };
     let mut connections = Connections::new(alloc, limits)?;
