@@ -84,11 +84,11 @@ fn a_journal_that_was_read_before_is_gone_on_with(rt: HostRuntime) {
     assert_eq!(rt; after, text(alloc, b"/checkpoint?from=0"));
 }
 
-/// The bytes of a checkpoint's file with these records.
-fn checkpoint(alloc: Global) -> Vec<u8> {
+/// The beginning of a checkpoint's file: its header, and bytes of records.
+fn checkpoint(alloc: Global, records: &[u8]) -> Vec<u8> {
     let mut bytes = Vec::new(alloc);
     let _header = bytes.extend_from_slice(&HEADER);
-    let _records = bytes.extend_from_slice(&RECORDS);
+    let _records = bytes.extend_from_slice(records);
     bytes
 }
 
@@ -96,12 +96,16 @@ fn checkpoint(alloc: Global) -> Vec<u8> {
 fn what_the_journal_lacks_is_taken_from_the_checkpoint(rt: HostRuntime) {
     let alloc = rt.alloc();
     let mut following = Following::new(alloc, Vec::new(alloc));
-    let bytes = checkpoint(alloc);
     came(alloc, &mut following, 204, &[]);
     let gone = came(alloc, &mut following, 410, &[]);
-    let begun = came(alloc, &mut following, 200, &bytes[..120]);
+    let begun = came(
+        alloc,
+        &mut following,
+        200,
+        &checkpoint(alloc, &RECORDS[..58]),
+    );
     let next = asked(alloc, &following);
-    let all = came(alloc, &mut following, 200, &bytes[77..]);
+    let all = came(alloc, &mut following, 200, &RECORDS[15..]);
     let end = came(alloc, &mut following, 204, &[]);
     let again = came(alloc, &mut following, 410, &[]);
     assert_eq!(rt; (gone, begun), (Some((Ok(None), 0)), Some((Ok(None), 0))));
@@ -125,7 +129,7 @@ fn an_answer_is_received_whole_or_refused(rt: HostRuntime) {
     let long = b"HTTP/1.1 200 OK\r\ncontent-length: 4194305\r\n\r\n";
     let answers = (answered(alloc, whole), answered(alloc, empty));
     assert_eq!(rt; answers, (Ok((200, Some(7), 2)), Ok((204, None, 0))));
-    let cut = (answered(alloc, &whole[..60]), answered(alloc, long));
+    let cut = (answered(alloc, &whole[..58]), answered(alloc, long));
     assert_eq!(rt; cut, (Err(PeerFault::Ended), Err(PeerFault::BadAnswer)));
     assert_eq!(rt; answered(alloc, b"SSH-2.0\r\n"), Err(PeerFault::BadAnswer));
 }
