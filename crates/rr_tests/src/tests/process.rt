@@ -4,7 +4,6 @@ use rr_desk::Reader;
 use rr_journal::Cursor;
 use rr_packed::PackedArchive;
 use rr_server::{Checkpointing, JournalParts, PeerCalling};
-use rr_web::Given;
 use std::alloc::{Allocator, Global};
 use std::env::{Env, FillError};
 use std::fmt::Display;
@@ -216,7 +215,7 @@ impl<R: JournalParts> JournalParts for Process<'_, R> {
         header: u64,
         end: u64,
         from: u64,
-    ) -> io::Result<Given> {
+    ) -> io::Result<rr_web::Given> {
         self.host.journal_part(alloc, path, header, end, from)
     }
 
@@ -226,7 +225,7 @@ impl<R: JournalParts> JournalParts for Process<'_, R> {
         path: &str,
         begins: Option<u64>,
         from: u64,
-    ) -> io::Result<Given> {
+    ) -> io::Result<rr_web::Given> {
         self.host.checkpoint_part(alloc, path, begins, from)
     }
 }
