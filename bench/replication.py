@@ -86,12 +86,12 @@ def answered(node, series, minute):
     return bool(text.strip()) and not text.strip().endswith(b",U")
 
 
-def cells(node):
-    """How many cells a node says that it holds."""
+def lag(node):
+    """How many bytes of its peer's journal a node says that it hasn't read."""
     for line in ask(node, "/metrics").decode().splitlines():
-        if line.startswith("rr_cells "):
+        if line.startswith("rr_peer_lag_bytes{"):
             return int(line.split()[1])
-    return 0
+    return None
 
 
 def new_samples(first, second, between, minute):
@@ -134,8 +134,8 @@ def main():
                   f"{processor_seconds(first.process):.1f} s of the other's since its start, "
                   f"{peak(second.process):,.0f} MB at most")
             time.sleep(15)
-            if cells(second) != cells(first):
-                sys.exit(f"{cells(second)} cells in place of {cells(first)}")
+            if lag(second) != 0:
+                sys.exit(f"{lag(second)} bytes of the journal aren't read")
             before = [processor_seconds(it.process) for it in nodes], between.bytes
             time.sleep(words.seconds)
             spent = [processor_seconds(it.process) - was for it, was in zip(nodes, before[0])]
