@@ -53,10 +53,10 @@ pub struct Connections<S> {
 /// Why nothing was done where a queue is behind.
 const BEHIND: &[u8] = b"{\"error\":\"the node is behind: nothing was written\"}\n";
 
-/// Why an answer isn't given where there is no room for it.
+/// What is answered in place of an answer for which there is no room.
 const NO_ROOM: &[u8] = b"{\"error\":\"the node holds too many answers\"}\n";
 
-/// A short answer: why there is no other one.
+/// A short answer, in place of one that isn't given.
 fn excuse(alloc: Global, status: u16, text: &[u8]) -> Result<Outcome, AllocError> {
     let mut fields = Vec::with_capacity(alloc, 2)?;
     fields.push(Field {

@@ -18,7 +18,7 @@
 //!
 //! The memory of connections is bounded by [`Limits::held`], but for 8 KiB that each may send besides,
 //! and its answers of at most 8 KiB, of which some 64 KiB may wait. A connection is read while it
-//! holds at most a quarter of what is free, and a longer answer that doesn't fit is answered 503.
+//! holds at most a quarter of what is left up to [`Limits::received`], and a longer answer that doesn't fit is answered 503.
 //! Where one had no room so, stalled connections are let go within a second, first the one that holds
 //! most ([`Pace`], [`Holder`]): nothing moves, or too little, and no item of it is out. One that takes
 //! or brings enough in time isn't.

@@ -12,7 +12,7 @@ pub struct Limits {
     pub body: usize,
     /// How many bytes of memory may be held for all connections.
     pub held: usize,
-    /// Where so many of them are held, no more is received but for small connections.
+    /// Once as many are held, only a connection that holds at most 8 KiB is read.
     pub received: usize,
     /// How long a connection may be silent between two requests, or between the bytes of lines.
     pub idle: u64,
@@ -23,7 +23,7 @@ pub struct Limits {
     /// How long a client may take to receive what is to be sent.
     pub download: u64,
     /// How long a connection may take to move a sixteenth of the memory that is held for it. After that
-    /// it is stalled, and may be let go where there is no room for others.
+    /// it is stalled, and may be closed to make room for others.
     pub stall: u64,
     /// A queue in which more bytes than this wait is behind.
     pub waiting: usize,
@@ -37,16 +37,15 @@ pub(crate) const SMALL: usize = 8 * 1024;
 
 const _: () = prove!(SMALL == 8_192);
 
-/// A connection that is read may hold this part of the room that is left. With a body of 8 MiB, whose buffer
-/// may be twice as large, one that isn't read then finds less than this part of all free.
+/// A connection that is read may hold one of so many parts of the room that is left.
 const PART: usize = 4;
 
 const _: () = prove!(PART == 4);
 
 impl Limits {
     /// 4,096 connections, 8 MiB of a body, 256 MiB in all, which any answer fits in, and 128 MiB while
-    /// more is received; 60 seconds of silence, 10 for a head, 30 for a body and for an answer, 2 for a sixteenth of it; a queue is
-    /// behind with 32 MiB, or after 2 seconds.
+    /// more is received; 60 seconds of silence, 10 for a head, 30 for a body and for an answer, 2 for a
+    /// sixteenth of what is held; a queue is behind with 32 MiB, or after 2 seconds.
     pub fn usual() -> Limits {
         Limits {
             connections: 4_096,

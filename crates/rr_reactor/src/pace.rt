@@ -1,4 +1,4 @@
-//! How fast connections get on, and which is let go where there is no room for others.
+//! How fast connections get on, and which one is closed to make room for others.
 
 ghost use Rattle.std.specs.Prelude.{◌≡◌};
 ghost use Rattle.rr_reactor.specs.Pace.{IsFirstToFree, holder, is_stalled, paced, sum_moved};
