@@ -1,3 +1,4 @@
 pub mod NameLemmas
 pub mod StartLemmas
 pub mod ReadingLemmas
+pub mod RaisingLemmas

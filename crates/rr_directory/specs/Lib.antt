@@ -9,3 +9,4 @@ pub mod Origins
 pub mod Report
 pub mod Survey
 pub mod Cells
+pub mod Raising

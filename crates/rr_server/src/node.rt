@@ -18,6 +18,7 @@
 
 mod arrivals;
 mod checkpoints;
+mod endings;
 mod giving;
 mod handler;
 mod keeping;
@@ -27,11 +28,14 @@ mod loading;
 mod logbook;
 mod mailbox;
 mod numbers;
+mod origins;
 mod peer;
+mod runtime;
 mod serving;
 mod shared;
 mod start;
 mod threads;
+mod upgrade;
 mod worker;
 
 pub use checkpoints::Checkpointing;

@@ -26,6 +26,7 @@ mod packed_cells;
 mod process;
 mod program;
 mod pulls;
+mod raised;
 mod records;
 mod recovery;
 mod replicas;

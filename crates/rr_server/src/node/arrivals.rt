@@ -1,9 +1,9 @@
 //! What peers bring, as who keeps takes it.
 
+use crate::node::keeping::is_written;
 use crate::node::link::PeerLink;
 use crate::node::mailbox::{Delivery, Mailbox};
 use rr_batch::{BatchFault, commit_cursor, join_cells};
-use rr_commit::ChangesFault;
 use rr_desk::Keeper;
 use rr_files::JournalFile;
 use rr_journal::Cursor;
@@ -155,28 +155,28 @@ impl Arrivals {
     }
 
     /// Records how far journals are read of which all that was brought is joined and saved, and says so
-    /// to their peers. What can't be recorded now is recorded later.
+    /// to their peers. What can't be recorded now is recorded later; the answer is whether all is.
     pub(crate) fn settle<R: Wait, F: Write + Seek + OpenFile>(
         &mut self,
         rt: &R,
         journal: &mut JournalFile<F>,
         cursor: &mut Cursor,
-    ) -> Result<(), BatchFault> {
+    ) -> Result<bool, BatchFault> {
+        let mut is_settled = true;
         for arrival in &mut self.arrivals {
             if !arrival.is_joined() {
                 continue;
             }
             if let Some(read) = arrival.read() {
-                match commit_cursor(self.alloc, &read, journal, cursor) {
-                    Ok(()) => put_cursor(&mut self.cursors, read)?,
-                    Err(ChangesFault::NotWritten) => continue,
-                    Err(ChangesFault::NotSynced) => return Err(BatchFault::NotSynced),
-                    Err(ChangesFault::Memory) => return Err(BatchFault::Memory),
+                if !is_written(commit_cursor(self.alloc, &read, journal, cursor))? {
+                    is_settled = false;
+                    continue;
                 }
+                put_cursor(&mut self.cursors, read)?;
             }
             arrival.finish(rt);
         }
-        Ok(())
+        Ok(is_settled)
     }
 
     /// Records all of how far journals are read, in a new file of the journal, and says whether that is
@@ -185,13 +185,13 @@ impl Arrivals {
         &self,
         journal: &mut JournalFile<F>,
         cursor: &mut Cursor,
-    ) -> bool {
+    ) -> Result<bool, BatchFault> {
         for read in &self.cursors {
-            if commit_cursor(self.alloc, read, journal, cursor).is_err() {
-                return false;
+            if !is_written(commit_cursor(self.alloc, read, journal, cursor))? {
+                return Ok(false);
             }
         }
-        true
+        Ok(true)
     }
 
     /// The numbers of the peers, as they stand.

@@ -48,7 +48,7 @@ impl Checkpointing for HostRuntime {
         begins: Cursor,
     ) -> io::Result<u64> {
         let directory = DataDirectory::at(self, path);
-        let bytes = write(alloc, reader, &directory, begins)?;
+        let bytes = write_checkpoint_file(alloc, reader, &directory, begins)?;
         remove_needless(alloc, &directory);
         Ok(bytes)
     }
@@ -62,12 +62,14 @@ pub(crate) struct Checkpoints {
     pub(crate) shared: Shared,
     /// The directory.
     pub(crate) path: String,
+    /// Where the journal ended when the series were counted last.
+    pub(crate) counted: Option<u64>,
 }
 
 /// Writes a checkpoint that begins at a place, and gives it its name. The answer is how many bytes it
 /// has. What the journal has up to there was published before this was asked for, so a reader that
 /// enters now sees it.
-fn write<R: Files>(
+pub(crate) fn write_checkpoint_file<R: Files>(
     alloc: Global,
     reader: &mut Reader<PackedArchive>,
     directory: &DataDirectory<'_, R>,
@@ -145,14 +147,16 @@ impl Checkpoints {
         Ok(count)
     }
 
-    /// Counts the series, at most once in ten seconds.
+    /// Counts the series, at most once in ten seconds, if the journal has gone on since.
     fn count_series(&mut self, round: u64) {
-        if round % ROUNDS != 0 {
+        let end = Some(self.shared.journal_end.load(Ordering::SeqCst));
+        if round % ROUNDS != 0 || end == self.counted {
             return;
         }
         if let Ok(count) = self.series() {
             let series: &AtomicU64 = &self.shared.series;
             series.store(count, Ordering::SeqCst);
+            self.counted = end;
         }
     }
 

@@ -28,7 +28,8 @@ pub trait JournalParts {
         from: u64,
     ) -> io::Result<Given>;
 
-    /// The bytes of the checkpoint that begins at an offset, or of the newest one, from a byte on.
+    /// The bytes of the checkpoint that begins at an offset, or of the newest one, from a byte on. They
+    /// are gone where the file ends before that.
     fn checkpoint_part(
         &self,
         alloc: Global,
@@ -127,6 +128,9 @@ impl JournalParts for HostRuntime {
         };
         if from == len {
             return Ok(Given::Nothing);
+        }
+        if from > len {
+            return Ok(Given::Gone);
         }
         let len = len.saturating_sub(from).min(MAX_PART);
         given(alloc, &directory, name, from, len)

@@ -8,6 +8,7 @@ use crate::node::shared::{Answered, Desired, Shared};
 use crate::server::OUT_OF_MEMORY;
 use rr_batch::{Answers, BatchFault, Waiting, Writer, commit_batch, commit_origin};
 use rr_command_line::PRODUCT;
+use rr_commit::ChangesFault;
 use rr_desk::Keeper;
 use rr_files::DataDirectory;
 use rr_host::Clock;
@@ -36,6 +37,17 @@ pub(crate) struct Keeping<F> {
     pub(crate) arrivals: Arrivals,
     /// Whether what the keeper holds is in the journal.
     pub(crate) is_saved: bool,
+}
+
+/// Whether a record is in the journal. Where it isn't written, a later one may be; after any other fault
+/// the node can't go on.
+pub(crate) fn is_written(committed: Result<(), ChangesFault>) -> Result<bool, BatchFault> {
+    match committed {
+        Ok(()) => Ok(true),
+        Err(ChangesFault::NotWritten) => Ok(false),
+        Err(ChangesFault::NotSynced) => Err(BatchFault::NotSynced),
+        Err(ChangesFault::Memory) => Err(BatchFault::Memory),
+    }
 }
 
 /// The items that wait, but for what is beyond a batch; none where none comes within a time.
@@ -143,21 +155,14 @@ impl<F: Write + Seek + OpenFile + Drop> Keeping<F> {
     /// Records the origin of this start and how far the journals of peers are read, and says whether
     /// that is saved. The files that have the first records of these go with the checkpoint that makes
     /// them needless, so the next file has them too.
-    fn record_again(&mut self) -> bool {
+    fn record_again(&mut self) -> Result<bool, BatchFault> {
         let origin = self.numbers.origin();
         let logbook = &mut self.logbook;
-        let is_recorded = commit_origin(
-            self.alloc,
-            origin,
-            &mut logbook.journal,
-            &mut logbook.cursor,
-        )
-        .is_ok()
-            && self
-                .arrivals
-                .record(&mut logbook.journal, &mut logbook.cursor);
+        let (journal, cursor) = (&mut logbook.journal, &mut logbook.cursor);
+        let is_recorded = is_written(commit_origin(self.alloc, origin, journal, cursor))?
+            && self.arrivals.record(journal, cursor)?;
         self.shared.is_synced_to(logbook.cursor.offset);
-        is_recorded
+        Ok(is_recorded)
     }
 
     /// Begins another file of the journal and asks for a checkpoint, where one is due. Where the file
@@ -168,9 +173,9 @@ impl<F: Write + Seek + OpenFile + Drop> Keeping<F> {
         rt: &R,
         path: &str,
         keeper: &Keeper<PackedArchive>,
-    ) {
+    ) -> Result<(), BatchFault> {
         if !self.is_saved || !self.logbook.is_due() {
-            return;
+            return Ok(());
         }
         let begins = self.logbook.cursor;
         self.logbook.since = begins.offset;
@@ -178,7 +183,7 @@ impl<F: Write + Seek + OpenFile + Drop> Keeping<F> {
         match directory.create_journal(self.alloc, &begins, keeper.schema()) {
             Ok(journal) => {
                 self.logbook.journal = journal;
-                if self.record_again() {
+                if self.record_again()? {
                     self.logbook.is_asked = true;
                     let checkpoints: &Desired = &self.shared.checkpoints;
                     checkpoints.ask(rt, begins);
@@ -186,6 +191,7 @@ impl<F: Write + Seek + OpenFile + Drop> Keeping<F> {
             }
             Err(error) => tell(rt, path, error),
         }
+        Ok(())
     }
 
     /// Takes items, commits and answers them.
@@ -203,8 +209,7 @@ impl<F: Write + Seek + OpenFile + Drop> Keeping<F> {
         self.shared.is_synced_to(self.logbook.cursor.offset);
         self.tell_health(rt, path);
         answer_all(rt, &self.shared, answers);
-        self.ask_for_checkpoint(rt, path, keeper);
-        Ok(())
+        self.ask_for_checkpoint(rt, path, keeper)
     }
 
     /// Records how far the journals of peers are read, if all that is joined is saved.
@@ -213,11 +218,12 @@ impl<F: Write + Seek + OpenFile + Drop> Keeping<F> {
             return Ok(());
         }
         let logbook = &mut self.logbook;
-        let settled = self
-            .arrivals
-            .settle(rt, &mut logbook.journal, &mut logbook.cursor);
+        let (journal, cursor) = (&mut logbook.journal, &mut logbook.cursor);
+        if !self.arrivals.settle(rt, journal, cursor)? {
+            self.numbers.append_failed();
+        }
         self.shared.is_synced_to(logbook.cursor.offset);
-        settled
+        Ok(())
     }
 
     /// Puts the numbers up as they stand, and then takes what waits, commits and answers it.

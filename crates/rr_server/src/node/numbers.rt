@@ -26,8 +26,9 @@ pub(crate) struct Numbers {
     origin: Origin,
     failed_appends: u64,
     cells: usize,
-    /// When cells were counted last, and how long it is until they are counted again.
-    counted: Option<Instant>,
+    /// When cells were counted last, where the journal ended then, and how long it is until they are
+    /// counted again.
+    counted: Option<(Instant, u64)>,
     count_after: Duration,
     /// When the numbers were put up last.
     posted: Option<Instant>,
@@ -37,12 +38,9 @@ pub(crate) struct Numbers {
     checkpoint: Option<(Instant, u64)>,
 }
 
-/// Whether a span of time is past since a moment, or there is no such moment.
-fn is_past(clock: &impl Clock, since: &Option<Instant>, span: Duration) -> bool {
-    match since {
-        Some(since) => since.elapsed(clock).unwrap_or(span) >= span,
-        None => true,
-    }
+/// Whether a span of time is past since a moment.
+fn is_past(clock: &impl Clock, since: &Instant, span: Duration) -> bool {
+    since.elapsed(clock).unwrap_or(span) >= span
 }
 
 /// The milliseconds since a moment.
@@ -89,9 +87,19 @@ impl Numbers {
         };
     }
 
-    /// Counts the cells, at most every ten seconds, and for a thousandth of the time.
-    fn count_cells(&mut self, clock: &impl Clock, keeper: &Keeper<PackedArchive>) {
-        if !is_past(clock, &self.counted, self.count_after) {
+    /// Whether cells are to be counted, where the journal ends at an offset: it has gone on since they
+    /// were, and the pause is over.
+    fn is_count_due(&self, clock: &impl Clock, offset: u64) -> bool {
+        match &self.counted {
+            Some((moment, end)) => *end != offset && is_past(clock, moment, self.count_after),
+            None => true,
+        }
+    }
+
+    /// Counts the cells, where there may be others, at most every ten seconds, and for a thousandth of
+    /// the time.
+    fn count_cells(&mut self, clock: &impl Clock, keeper: &Keeper<PackedArchive>, offset: u64) {
+        if !self.is_count_due(clock, offset) {
             return;
         }
         let began = Instant::now(clock).ok();
@@ -102,7 +110,10 @@ impl Numbers {
         };
         let pause = took.saturating_mul(CELLS_SHARE);
         self.count_after = pause.max(Duration::from_secs(CELLS_EVERY));
-        self.counted = Instant::now(clock).ok();
+        self.counted = match Instant::now(clock) {
+            Ok(now) => Some((now, offset)),
+            Err(_) => None,
+        };
     }
 
     /// The numbers as they stand.
@@ -166,11 +177,13 @@ impl Numbers {
         offset: u64,
         shared: &Shared,
     ) {
-        if !is_past(rt, &self.posted, Duration::from_secs(1)) {
+        if let Some(posted) = &self.posted
+            && !is_past(rt, posted, Duration::from_secs(1))
+        {
             return;
         }
         self.posted = Instant::now(rt).ok();
-        self.count_cells(rt, keeper);
+        self.count_cells(rt, keeper, offset);
         // If there is no memory for them, the last ones stay.
         if let Ok(metrics) = self.metrics(rt, alloc, keeper, writer, arrivals, offset, shared)
             && let Ok(text) = metrics_text(alloc, &metrics)

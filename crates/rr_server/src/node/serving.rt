@@ -6,15 +6,12 @@ use crate::clock::SystemClock;
 use crate::files::read_node_config;
 use crate::greeting::node_greeting;
 use crate::node::arrivals::Arrivals;
-use crate::node::checkpoints::Checkpointing;
-use crate::node::giving::JournalParts;
 use crate::node::keeping::Keeping;
 use crate::node::listening::listen;
-use crate::node::logbook::Logbook;
 use crate::node::numbers::Numbers;
-use crate::node::peer::PeerCalling;
+use crate::node::runtime::NodeRuntime;
 use crate::node::shared::Shared;
-use crate::node::start::{Started, start};
+use crate::node::start::{Beginning, Started, start};
 use crate::node::threads::{Served, links_of};
 use crate::node::worker::Workers;
 use crate::server::OUT_OF_MEMORY;
@@ -23,19 +20,12 @@ use rr_config::NodeConfig;
 use rr_desk::{Keeper, Reader, open};
 use rr_files::TryLock;
 use rr_host::Clock;
-use rr_journal::Cursor;
 use rr_packed::PackedArchive;
 use rr_process::Ending;
 use rr_reactor::Reactor;
 use rr_replica::Replica;
-use rr_schema::Origin;
 use std::alloc::AllocError;
-use std::net::Net;
-use std::random::RandomSource;
-use std::rt::Files;
-use std::sync::Wait;
-use std::thread::{Threads, join_mut};
-use std::time;
+use std::thread::join_mut;
 
 /// Says with what a node starts, unless it is to be quiet.
 fn greet(rt: &(impl AllocGlobal + Eprint), config: &NodeConfig, replica: &Replica<PackedArchive>) {
@@ -49,7 +39,7 @@ fn greet(rt: &(impl AllocGlobal + Eprint), config: &NodeConfig, replica: &Replic
 }
 
 /// Serves with a keeper, and with workers on threads of their own, until one ends.
-fn serve_all<C: Clock, R>(
+fn serve_all<C: Clock, R: NodeRuntime>(
     rt: &R,
     path: &str,
     keeper: &mut Keeper<PackedArchive>,
@@ -57,18 +47,7 @@ fn serve_all<C: Clock, R>(
     keeping: &mut Keeping<R::File>,
     workers: &mut Workers,
     shared: &Shared,
-) -> Ending
-where
-    R: Files
-        + Checkpointing
-        + JournalParts
-        + PeerCalling
-        + Eprint
-        + Threads
-        + Wait
-        + time::Clock
-        + Sync,
-{
+) -> Ending {
     let mut working = || -> ()
         requires { IsSync R.row }
     { workers.work(rt) };
@@ -82,33 +61,24 @@ where
 }
 
 /// Serves with a keeper a node that has started, until a thread ends.
-fn serve_keeper<R>(
+fn serve_keeper<R: NodeRuntime>(
     rt: &R,
     config: &NodeConfig,
     path: &str,
-    origin: Origin,
-    logbook: Logbook<R::File>,
-    cursors: Vec<Cursor>,
+    beginning: Beginning<R::File>,
     reactor: Reactor,
     keeper: &mut Keeper<PackedArchive>,
     readers: Vec<Reader<PackedArchive>>,
-) -> Result<Ending, AllocError>
-where
-    R: AllocGlobal
-        + Files
-        + Checkpointing
-        + JournalParts
-        + PeerCalling
-        + Eprint
-        + Threads
-        + Wait
-        + time::Clock
-        + Sync,
-{
+) -> Result<Ending, AllocError> {
     let alloc = rt.alloc();
     let Ok(queues) = reactor.queues() else {
         return Err(AllocError);
     };
+    let Beginning {
+        logbook,
+        origin,
+        cursors,
+    } = beginning;
     let shared = Shared::new(alloc, queues, logbook.cursor.offset)?;
     let links = links_of(alloc, rt, config)?;
     let served = Served {
@@ -131,60 +101,30 @@ where
         arrivals: Arrivals::new(alloc, links, cursors)?,
         is_saved: true,
     };
-    let mut clock = SystemClock::new(rt);
-    Ok(serve_all(
-        rt,
-        path,
-        keeper,
-        &mut clock,
-        &mut keeping,
-        &mut workers,
-        &shared,
-    ))
+    let clock = &mut SystemClock::new(rt);
+    let (keeping, workers) = (&mut keeping, &mut workers);
+    Ok(serve_all(rt, path, keeper, clock, keeping, workers, &shared))
 }
 
 /// Opens a desk over the replica of a node that has started, and serves until a thread ends.
-fn serve_started<R>(
+fn serve_started<R: NodeRuntime>(
     rt: &R,
     config: &NodeConfig,
     path: &str,
     started: Started<R::File>,
     reactor: Reactor,
-) -> Result<Ending, AllocError>
-where
-    R: AllocGlobal
-        + Files
-        + Checkpointing
-        + JournalParts
-        + PeerCalling
-        + Eprint
-        + Threads
-        + Wait
-        + time::Clock
-        + Sync,
-{
+) -> Result<Ending, AllocError> {
     let Started {
         lock,
         replica,
-        logbook,
-        origin,
-        cursors,
+        beginning,
     } = started;
     let readers = (config.readers as usize).saturating_add(1);
     let Ok((mut keeper, readers)) = open(rt.alloc(), rt, replica, readers) else {
         return Err(AllocError);
     };
-    let ending = serve_keeper(
-        rt,
-        config,
-        path,
-        origin,
-        logbook,
-        cursors,
-        reactor,
-        &mut keeper,
-        readers,
-    );
+    let desk = &mut keeper;
+    let ending = serve_keeper(rt, config, path, beginning, reactor, desk, readers);
     keeper.close(rt);
     drop(lock);
     ending
@@ -193,25 +133,13 @@ where
 /// Serves as a node from a directory, which begins with a snapshot where one is named. Configuration,
 /// directory, recovery, the origin's record and listeners come in this order, and the first fault
 /// ends it.
-pub(crate) fn serve_node_of<R>(
+pub(crate) fn serve_node_of<R: NodeRuntime>(
     rt: &R,
     config: &str,
     path: &str,
     load: Option<&str>,
 ) -> Result<Ending, Ending>
 where
-    R: AllocGlobal
-        + Files
-        + Checkpointing
-        + JournalParts
-        + PeerCalling
-        + Eprint
-        + Net
-        + time::Clock
-        + RandomSource
-        + Threads
-        + Wait
-        + Sync,
     R::File: TryLock,
 {
     let config = read_node_config(rt, config)?;

@@ -1,26 +1,26 @@
 //! A node's replica and journal, from its directory.
 
 use crate::files::{load_replica, tell};
+use crate::node::endings::{directory_ending, failed, refusal_ending};
 use crate::node::loading::commit_replica;
 use crate::node::logbook::Logbook;
+use crate::node::origins::next_origin;
+use crate::node::upgrade::{older_schema, upgraded};
 use crate::server::OUT_OF_MEMORY;
 use rr_batch::commit_origin;
 use rr_config::NodeConfig;
-use rr_directory::{
-    Directory, DirectoryFault, FileFault, FileName, Recovered, Refusal, Start, empty_replica,
-    last_origin, recover, start_of,
-};
+use rr_directory::{Directory, FileName, Recovered, Start, empty_replica, recover, start_of};
 use rr_files::{DataDirectory, DirectoryLock, JournalFile, OpenFault, TryLock};
 use rr_journal::{Cursor, ID_LEN};
 use rr_packed::PackedArchive;
 use rr_process::{Ending, ToolFault};
 use rr_replica::Replica;
-use rr_schema::Origin;
+use rr_schema::{Origin, Schema};
 use std::alloc::Global;
 use std::io;
-use std::io::ErrorKind;
 use std::random::RandomSource;
 use std::rt::Files;
+use std::sync::Wait;
 
 /// A node that is ready to serve.
 #[derive(Drop)]
@@ -28,6 +28,12 @@ pub(crate) struct Started<F> {
     /// Held as long as the node runs.
     pub(crate) lock: DirectoryLock<F>,
     pub(crate) replica: Replica<PackedArchive>,
+    pub(crate) beginning: Beginning<F>,
+}
+
+/// What a node begins with besides its replica.
+#[derive(Drop)]
+pub(crate) struct Beginning<F> {
     pub(crate) logbook: Logbook<F>,
     /// The origin of this start.
     pub(crate) origin: Origin,
@@ -35,13 +41,15 @@ pub(crate) struct Started<F> {
     pub(crate) cursors: Vec<Cursor>,
 }
 
-/// The ending where a call of the system failed, which is told.
-fn failed(rt: &impl Eprint, path: &str, error: &io::Error) -> Ending {
-    if error.kind() == ErrorKind::OutOfMemory {
-        return OUT_OF_MEMORY;
-    }
-    tell(rt, path, error);
-    Ending::Stopped
+/// What a directory has.
+#[derive(Drop)]
+struct Contents {
+    files: Start,
+    replica: Replica<PackedArchive>,
+    /// What its files have besides.
+    recovered: Recovered,
+    /// Whether the replica has cells that the files lack.
+    is_loaded: bool,
 }
 
 /// Opens and locks a directory.
@@ -63,37 +71,6 @@ where
     }
 }
 
-/// The ending where a directory can't be read.
-fn directory_ending(rt: &impl Eprint, path: &str, fault: DirectoryFault) -> Ending {
-    match fault {
-        DirectoryFault::Memory => OUT_OF_MEMORY,
-        DirectoryFault::ReadFailed => {
-            tell(rt, path, fault);
-            Ending::Stopped
-        }
-    }
-}
-
-/// The ending where a file is refused, which is told with its name and its reason.
-fn refusal_ending(rt: &(impl AllocGlobal + Eprint), path: &str, refusal: &Refusal) -> Ending {
-    if refusal.fault == FileFault::Memory {
-        return OUT_OF_MEMORY;
-    }
-    let Ok(name) = refusal.file.bytes(rt.alloc()) else {
-        return OUT_OF_MEMORY;
-    };
-    let file = name.escape_ascii();
-    let (reason, fault) = (refusal.fault.name(), refusal.fault);
-    // If this can't be printed, the ending still says that the node didn't start.
-    let _printed = match fault {
-        FileFault::Damaged { at, .. } => {
-            eprintln!(rt; "rr: {path}/{file}: {reason} at byte {at}: {fault}")
-        }
-        _ => eprintln!(rt; "rr: {path}/{file}: {reason}: {fault}"),
-    };
-    Ending::Stopped
-}
-
 /// The names of the files of a directory, by what a start has to do with them.
 fn files_of<R: AllocGlobal + Files + Eprint>(
     rt: &R,
@@ -110,58 +87,37 @@ fn files_of<R: AllocGlobal + Files + Eprint>(
     }
 }
 
-/// The origin of this start: the next of the range that no start of this directory had.
-fn next_origin<R: AllocGlobal + Files + Eprint>(
-    rt: &R,
-    path: &str,
-    directory: &DataDirectory<'_, R>,
-    files: &[FileName],
-    config: &NodeConfig,
-) -> Result<Origin, Ending> {
-    let last = match last_origin(rt.alloc(), directory, files, &config.schema) {
-        Ok(last) => last,
-        Err(refusal) => return Err(refusal_ending(rt, path, &refusal)),
-    };
-    match config.origins.next_after(last) {
-        Some(origin) => Ok(origin),
-        None => {
-            tell(
-                rt,
-                path,
-                "the range of origins is spent: give the node a new one",
-            );
-            Err(Ending::ConfigRefused("OriginsSpent"))
-        }
-    }
-}
-
-/// The replica that the files make, and what was found in them besides.
+/// The replica that files of a schema make, and what was found in them besides.
 fn recovered<R: AllocGlobal + Files + Eprint>(
     rt: &R,
     path: &str,
     directory: &DataDirectory<'_, R>,
     files: &[FileName],
-    config: &NodeConfig,
+    schema: &Schema,
     origin: Origin,
 ) -> Result<(Replica<PackedArchive>, Recovered), Ending> {
     let alloc = rt.alloc();
-    let Ok(mut replica) = empty_replica(alloc, &config.schema, origin) else {
+    let Ok(mut replica) = empty_replica(alloc, schema, origin) else {
         return Err(OUT_OF_MEMORY);
     };
-    match recover(alloc, directory, files, &config.schema, &mut replica) {
+    match recover(alloc, directory, files, schema, &mut replica) {
         Ok(recovered) => {
             replica.finish_all_rows();
+            tell_torn(rt, path, recovered.torn);
             Ok((replica, recovered))
         }
         Err(refusal) => Err(refusal_ending(rt, path, &refusal)),
     }
 }
 
-/// Where a new journal begins.
-fn new_cursor<R: RandomSource>(rt: &R) -> io::Result<Cursor> {
+/// A new journal, from an offset on.
+fn new_cursor<R: RandomSource>(rt: &R, offset: u64) -> io::Result<Cursor> {
     let mut id = [0u8; ID_LEN];
     rt.fill_bytes(&mut id)?;
-    Ok(Cursor::start(id))
+    Ok(Cursor {
+        offset,
+        ..Cursor::start(id)
+    })
 }
 
 /// The journal's last file, to go on behind what was read of it, or a first one; and its end.
@@ -175,7 +131,7 @@ fn open_journal<R: AllocGlobal + Files + RandomSource>(
     let alloc = rt.alloc();
     let cursor = match recovered.end {
         Some(end) => end,
-        None => new_cursor(rt)?,
+        None => new_cursor(rt, 0)?,
     };
     let journal = match files.last() {
         Some(FileName::Journal(offset)) => {
@@ -210,8 +166,125 @@ fn tell_torn(rt: &impl Eprint, path: &str, torn: u64) {
     }
 }
 
+/// What a directory has whose files lack an archive, under the schema of the configuration. Its journal
+/// begins anew behind where it ended.
+fn with_archive<R: AllocGlobal + Files + Eprint + RandomSource + Wait>(
+    rt: &R,
+    config: &NodeConfig,
+    path: &str,
+    directory: &DataDirectory<'_, R>,
+    older: Contents,
+) -> Result<Contents, Ending> {
+    let Contents {
+        replica,
+        mut recovered,
+        ..
+    } = older;
+    let end = match recovered.end {
+        Some(end) => end.offset,
+        None => 0,
+    };
+    let begins = match new_cursor(rt, end.saturating_add(1)) {
+        Ok(begins) => begins,
+        Err(error) => return Err(failed(rt, path, &error)),
+    };
+    let replica = upgraded(rt, path, directory, replica, &config.schema, begins)?;
+    recovered.end = Some(begins);
+    recovered.torn = 0;
+    Ok(Contents {
+        files: files_of(rt, path, directory)?,
+        replica,
+        recovered,
+        is_loaded: false,
+    })
+}
+
+/// What a new directory begins with: the snapshot in a file.
+fn loaded<R: AllocGlobal + Files + Eprint>(
+    rt: &R,
+    config: &NodeConfig,
+    path: &str,
+    directory: &DataDirectory<'_, R>,
+    files: Start,
+    file: &str,
+) -> Result<Contents, Ending> {
+    if !files.files.is_empty() {
+        tell(rt, path, "not a new directory: --load begins one");
+        return Err(Ending::Stopped);
+    }
+    let schema = &config.schema;
+    let origin = next_origin(rt, path, directory, &files, schema, config)?;
+    let (_, recovered) = recovered(rt, path, directory, &files.files, schema, origin)?;
+    Ok(Contents {
+        files,
+        replica: load_replica(rt, file, schema, origin)?,
+        recovered,
+        is_loaded: true,
+    })
+}
+
+/// What the files of a directory make for a new origin.
+fn contents_of<R: AllocGlobal + Files + Eprint + RandomSource + Wait>(
+    rt: &R,
+    config: &NodeConfig,
+    path: &str,
+    directory: &DataDirectory<'_, R>,
+    files: Start,
+) -> Result<Contents, Ending> {
+    let older = older_schema(rt, path, directory, &files.files, &config.schema)?;
+    let schema = match &older {
+        Some(older) => older,
+        None => &config.schema,
+    };
+    let origin = next_origin(rt, path, directory, &files, schema, config)?;
+    let (replica, recovered) = recovered(rt, path, directory, &files.files, schema, origin)?;
+    let contents = Contents {
+        files,
+        replica,
+        recovered,
+        is_loaded: false,
+    };
+    match older {
+        Some(_) => with_archive(rt, config, path, directory, contents),
+        None => Ok(contents),
+    }
+}
+
+/// The journal, in which the origin of this start is recorded, and what the files lack.
+fn begun<R: AllocGlobal + Files + Eprint + RandomSource>(
+    rt: &R,
+    config: &NodeConfig,
+    path: &str,
+    directory: &DataDirectory<'_, R>,
+    contents: &Contents,
+) -> Result<Logbook<R::File>, Ending> {
+    let alloc = rt.alloc();
+    let (files, replica) = (&contents.files.files, &contents.replica);
+    let opened = open_journal(rt, directory, files, &contents.recovered, config);
+    let (mut journal, mut cursor) = match opened {
+        Ok(opened) => opened,
+        Err(error) => return Err(failed(rt, path, &error)),
+    };
+    let origin = replica.origin();
+    if commit_origin(alloc, origin, &mut journal, &mut cursor).is_err()
+        || (contents.is_loaded
+            && commit_replica(alloc, replica, &mut journal, &mut cursor).is_err())
+    {
+        return Err(Ending::Failed(ToolFault::WriteFailed));
+    }
+    let (since, checkpoint) = newest_checkpoint(alloc, directory, files);
+    Ok(Logbook {
+        journal,
+        cursor,
+        since,
+        checkpoint,
+        is_asked: false,
+    })
+}
+
 /// Opens a directory, recovers what its files have, takes a new origin and records it. With `load` the
-/// directory has to be new, and begins with the snapshot in that file.
+/// directory has to be new, and begins with the snapshot in that file. Where the configuration has one
+/// archive more than the files, that is added.
 pub(crate) fn start<R>(
     rt: &R,
     config: &NodeConfig,
@@ -219,54 +292,33 @@ pub(crate) fn start<R>(
     load: Option<&str>,
 ) -> Result<Started<R::File>, Ending>
 where
-    R: AllocGlobal + Files + Eprint + RandomSource,
+    R: AllocGlobal + Files + Eprint + RandomSource + Wait,
     R::File: TryLock,
 {
     let (directory, lock) = open_directory(rt, path)?;
     let files = files_of(rt, path, &directory)?;
-    let origin = next_origin(rt, path, &directory, &files.files, config)?;
-    let (mut replica, recovered) = recovered(rt, path, &directory, &files.files, config, origin)?;
-    if let Some(file) = load {
-        if !files.files.is_empty() {
-            tell(rt, path, "not a new directory: --load begins one");
-            return Err(Ending::Stopped);
-        }
-        replica = load_replica(rt, file, &config.schema, origin)?;
-    }
-    tell_torn(rt, path, recovered.torn);
-    let (mut journal, mut cursor) = match open_journal(
-        rt,
-        &directory,
-        &files.files,
-        &recovered,
-        config,
-    ) {
-        Ok(opened) => opened,
-        Err(error) => return Err(failed(rt, path, &error)),
+    let contents = match load {
+        Some(file) => loaded(rt, config, path, &directory, files, file)?,
+        None => contents_of(rt, config, path, &directory, files)?,
     };
-    let Recovered { found, .. } = recovered;
-    let alloc = rt.alloc();
-    if commit_origin(alloc, origin, &mut journal, &mut cursor).is_err()
-        || (load.is_some() && commit_replica(alloc, &replica, &mut journal, &mut cursor).is_err())
-    {
-        return Err(Ending::Failed(ToolFault::WriteFailed));
-    }
-    let (since, checkpoint) = newest_checkpoint(alloc, &directory, &files.files);
-    for name in &files.needless {
+    let logbook = begun(rt, config, path, &directory, &contents)?;
+    for name in &contents.files.needless {
         // What stays is as needless at the next start.
-        let _removed = directory.remove(alloc, *name);
+        let _removed = directory.remove(rt.alloc(), *name);
     }
+    let Contents {
+        replica,
+        recovered,
+        ..
+    } = contents;
+    let beginning = Beginning {
+        logbook,
+        origin: replica.origin(),
+        cursors: recovered.found.cursors,
+    };
     Ok(Started {
         lock,
         replica,
-        logbook: Logbook {
-            journal,
-            cursor,
-            since,
-            checkpoint,
-            is_asked: false,
-        },
-        origin,
-        cursors: found.cursors,
+        beginning,
     })
 }

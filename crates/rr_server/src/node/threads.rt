@@ -36,6 +36,7 @@ impl Served<'_> {
             reader,
             shared: self.shared.share()?,
             path: String::from_str(self.alloc, self.path)?,
+            counted: None,
         }))
     }
 

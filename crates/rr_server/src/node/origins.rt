@@ -1,0 +1,82 @@
+//! The origin of a start.
+
+use crate::files::tell;
+use crate::node::endings::refusal_ending;
+use rr_config::NodeConfig;
+use rr_directory::{FileName, Refusal, Start, last_origin, schema_in};
+use rr_files::DataDirectory;
+use rr_process::Ending;
+use rr_schema::{Origin, Schema};
+use std::rt::Files;
+
+/// The origin that a file of the journal recorded last, whatever its schema is.
+fn origin_in<R: AllocGlobal + Files>(
+    rt: &R,
+    directory: &DataDirectory<'_, R>,
+    name: FileName,
+) -> Result<Option<Origin>, Refusal> {
+    match schema_in(rt.alloc(), directory, name) {
+        Ok(Some(schema)) => last_origin(rt.alloc(), directory, &[name], &schema),
+        Ok(None) => Ok(None),
+        Err(fault) => Err(Refusal { file: name, fault }),
+    }
+}
+
+/// The greatest origin that files recorded which a start doesn't read.
+///
+/// They alone have it where a crash came between the first checkpoint of another schema and its
+/// journal.
+fn origin_in_needless<R: AllocGlobal + Files>(
+    rt: &R,
+    directory: &DataDirectory<'_, R>,
+    needless: &[FileName],
+) -> Result<Option<Origin>, Refusal> {
+    let mut greatest = None;
+    for name in needless {
+        if let FileName::Journal(_) = name {
+            greatest = match (greatest, origin_in(rt, directory, *name)?) {
+                (Some(one), Some(other)) if other < one => Some(one),
+                (one, None) => one,
+                (_, other) => other,
+            };
+        }
+    }
+    Ok(greatest)
+}
+
+/// The origin that the files of a directory recorded last.
+fn last_recorded<R: AllocGlobal + Files>(
+    rt: &R,
+    directory: &DataDirectory<'_, R>,
+    files: &Start,
+    schema: &Schema,
+) -> Result<Option<Origin>, Refusal> {
+    match last_origin(rt.alloc(), directory, &files.files, schema)? {
+        Some(origin) => Ok(Some(origin)),
+        None => origin_in_needless(rt, directory, &files.needless),
+    }
+}
+
+/// The origin of this start: the next of the range that no start of this directory had. The files that
+/// are read are of this schema.
+pub(crate) fn next_origin<R: AllocGlobal + Files + Eprint>(
+    rt: &R,
+    path: &str,
+    directory: &DataDirectory<'_, R>,
+    files: &Start,
+    schema: &Schema,
+    config: &NodeConfig,
+) -> Result<Origin, Ending> {
+    let last = match last_recorded(rt, directory, files, schema) {
+        Ok(last) => last,
+        Err(refusal) => return Err(refusal_ending(rt, path, &refusal)),
+    };
+    match config.origins.next_after(last) {
+        Some(origin) => Ok(origin),
+        None => {
+            let text = "the range of origins is spent: give the node a new one";
+            tell(rt, path, text);
+            Err(Ending::ConfigRefused("OriginsSpent"))
+        }
+    }
+}
