@@ -22,6 +22,15 @@ fn origin_in<R: AllocGlobal + Files>(
     }
 }
 
+/// The greater of two origins, or the one that there is.
+fn greater(one: Option<Origin>, other: Option<Origin>) -> Option<Origin> {
+    match (one, other) {
+        (Some(one), Some(other)) => Some(one.max(other)),
+        (Some(one), None) => Some(one),
+        (None, other) => other,
+    }
+}
+
 /// The greatest origin that files recorded which a start doesn't read.
 ///
 /// They alone have it where a crash came between the first checkpoint of another schema and its
@@ -34,11 +43,7 @@ fn origin_in_needless<R: AllocGlobal + Files>(
     let mut greatest = None;
     for name in needless {
         if let FileName::Journal(_) = name {
-            greatest = match (greatest, origin_in(rt, directory, *name)?) {
-                (Some(one), Some(other)) if other < one => Some(one),
-                (one, None) => one,
-                (_, other) => other,
-            };
+            greatest = greater(greatest, origin_in(rt, directory, *name)?);
         }
     }
     Ok(greatest)

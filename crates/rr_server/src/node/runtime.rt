@@ -3,40 +3,22 @@
 use crate::node::checkpoints::Checkpointing;
 use crate::node::giving::JournalParts;
 use crate::node::peer::PeerCalling;
-use std::net::Net;
-use std::random::RandomSource;
-use std::rt::Files;
 use std::sync::Wait;
 use std::thread::Threads;
 use std::time::Clock;
 
-/// What a node asks of the system: memory, files, sockets, threads, clocks and random bytes, and what its
-/// threads do with files and with peers.
-pub trait NodeRuntime: AllocGlobal
-    + Files
-    + Checkpointing
+/// What the threads of a node ask of the system. [`Files`](std::rt::Files) and [`Net`](std::net::Net) aren't
+/// among it: see [`Checkpointing`].
+pub trait ThreadRuntime: Checkpointing
     + JournalParts
     + PeerCalling
     + Eprint
-    + Net
-    + Clock
-    + RandomSource
     + Threads
     + Wait
+    + Clock
     + Sync {}
 
-impl<R> NodeRuntime for R
+impl<R> ThreadRuntime for R
 where
-    R: AllocGlobal
-        + Files
-        + Checkpointing
-        + JournalParts
-        + PeerCalling
-        + Eprint
-        + Net
-        + Clock
-        + RandomSource
-        + Threads
-        + Wait
-        + Sync,
+    R: Checkpointing + JournalParts + PeerCalling + Eprint + Threads + Wait + Clock + Sync,
 {}

@@ -9,7 +9,7 @@ use crate::node::arrivals::Arrivals;
 use crate::node::keeping::Keeping;
 use crate::node::listening::listen;
 use crate::node::numbers::Numbers;
-use crate::node::runtime::NodeRuntime;
+use crate::node::runtime::ThreadRuntime;
 use crate::node::shared::Shared;
 use crate::node::start::{Beginning, Started, start};
 use crate::node::threads::{Served, links_of};
@@ -25,6 +25,9 @@ use rr_process::Ending;
 use rr_reactor::Reactor;
 use rr_replica::Replica;
 use std::alloc::AllocError;
+use std::net::Net;
+use std::random::RandomSource;
+use std::rt::Files;
 use std::thread::join_mut;
 
 /// Says with what a node starts, unless it is to be quiet.
@@ -39,7 +42,7 @@ fn greet(rt: &(impl AllocGlobal + Eprint), config: &NodeConfig, replica: &Replic
 }
 
 /// Serves with a keeper, and with workers on threads of their own, until one ends.
-fn serve_all<C: Clock, R: NodeRuntime>(
+fn serve_all<C: Clock, R: Files + ThreadRuntime>(
     rt: &R,
     path: &str,
     keeper: &mut Keeper<PackedArchive>,
@@ -61,7 +64,7 @@ fn serve_all<C: Clock, R: NodeRuntime>(
 }
 
 /// Serves with a keeper a node that has started, until a thread ends.
-fn serve_keeper<R: NodeRuntime>(
+fn serve_keeper<R: AllocGlobal + Files + ThreadRuntime>(
     rt: &R,
     config: &NodeConfig,
     path: &str,
@@ -107,7 +110,7 @@ fn serve_keeper<R: NodeRuntime>(
 }
 
 /// Opens a desk over the replica of a node that has started, and serves until a thread ends.
-fn serve_started<R: NodeRuntime>(
+fn serve_started<R: AllocGlobal + Files + ThreadRuntime>(
     rt: &R,
     config: &NodeConfig,
     path: &str,
@@ -133,13 +136,14 @@ fn serve_started<R: NodeRuntime>(
 /// Serves as a node from a directory, which begins with a snapshot where one is named. Configuration,
 /// directory, recovery, the origin's record and listeners come in this order, and the first fault
 /// ends it.
-pub(crate) fn serve_node_of<R: NodeRuntime>(
+pub(crate) fn serve_node_of<R>(
     rt: &R,
     config: &str,
     path: &str,
     load: Option<&str>,
 ) -> Result<Ending, Ending>
 where
+    R: AllocGlobal + Files + Net + RandomSource + ThreadRuntime,
     R::File: TryLock,
 {
     let config = read_node_config(rt, config)?;

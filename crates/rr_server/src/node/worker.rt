@@ -7,10 +7,11 @@ use crate::node::checkpoints::{Checkpointing, Checkpoints};
 use crate::node::giving::JournalParts;
 use crate::node::handler::Handler;
 use crate::node::peer::{Peer, PeerCalling};
+use crate::node::runtime::ThreadRuntime;
 use crate::node::shared::Shared;
 use rr_reactor::Reactor;
 use std::sync::Wait;
-use std::thread::{Threads, for_each_mut};
+use std::thread::for_each_mut;
 use std::time::Clock;
 
 /// What a thread does.
@@ -46,10 +47,7 @@ impl Worker {
 }
 
 /// Has each worker work on a thread of its own. Once one ends, all do.
-fn work_all<R>(rt: &R, workers: &mut [Worker], shared: &Shared)
-where
-    R: Checkpointing + JournalParts + PeerCalling + Eprint + Threads + Wait + Clock + Sync,
-{
+fn work_all<R: ThreadRuntime>(rt: &R, workers: &mut [Worker], shared: &Shared) {
     if workers.is_empty() {
         return;
     }
@@ -77,10 +75,7 @@ pub(crate) struct Workers {
 
 impl Workers {
     /// Has each work on a thread of its own, until one ends or they are halted.
-    pub(crate) fn work<R>(&mut self, rt: &R)
-    where
-        R: Checkpointing + JournalParts + PeerCalling + Eprint + Threads + Wait + Clock + Sync,
-    {
+    pub(crate) fn work<R: ThreadRuntime>(&mut self, rt: &R) {
         work_all(rt, self.workers.as_mut_slice(), &self.shared);
     }
 }
