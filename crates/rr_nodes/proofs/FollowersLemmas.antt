@@ -1,14 +1,14 @@
 -- Followers of a journal hold what they have read of it.
 use Rattle.std.proofs.Common.{arith, ◌≡◌, ℕ, ◌+◌, ◌-◌, ◌^◌, ◌<◌, ◌≤◌, List, [], ◌∷◌, ◌++◌, map, fold, drop, take, append_assoc, append-nil, refl, sym, ap, ◌∙◌, subst, Result, Ok, None, ◌⊎◌, inl, inr, ⊎_elim}
-use Rattle.std.specs.Prelude.{Contains}
+use Rattle.std.specs.Prelude.{All, Contains}
 use Rattle.std.specs.FinMap.{empty}
 use Rattle.std.specs.List.{AllByRecursion}
 use Rattle.std.proofs.lemmas.Grind.{flat_map-append}
 use Rattle.std.proofs.lemmas.List.{map-append, take-append-drop}
-use Rattle.std.proofs.lemmas.List.Elements.{All-contains, All-contains_itself, All-from_recursion, All-weaker, Contains-append_cases, Contains-append_left, Contains-append_right, recursion_from_All}
+use Rattle.std.proofs.lemmas.List.Elements.{All-contains, All-contains_itself, All-drop, All-from_recursion, All-take, All-weaker, Contains-append_cases, Contains-append_left, Contains-append_right, recursion_from_All}
 use Rattle.rr_text.specs.Results.{◌>>=◌}
 use Rattle.rr_schema.specs.Schema.{Layout, IsLayout}
-use Rattle.rr_cells.specs.CellBounds.{NamedCell}
+use Rattle.rr_cells.specs.CellBounds.{IsCellOf, NamedCell}
 use Rattle.rr_cells.specs.declared.cell.Cell.{Cell}
 use Rattle.rr_cells.specs.Cells.{Cells}
 use Rattle.rr_cells.specs.Joins.{join_cells}
@@ -38,6 +38,7 @@ use Rattle.rr_replication.specs.declared.fault.PartFault.{PartFault}
 use Rattle.rr_replication.specs.Laws.{HasReadSome}
 use Rattle.rr_replication.specs.Reading.{PeerState, after_part, peer_state}
 use Rattle.rr_replication.proofs.TextLemmas.{behind_append, dropped, later_fit, len_append, length_of_text, meanings_append, parts_bring_the_records}
+use Rattle.rr_batch.proofs.PeerLemmas.{cells_of_the_schema_are_joined}
 use Rattle.rr_nodes.specs.Followers.{Follower, HasReadOn, HasJoinedFirst, HasGoneOn, KeepersGoOn, AreFollowers, HasFollowed, IsStart, CanStand, IsBehind, FollowersHoldAll, CheckpointedHoldAll, from_checkpoint}
 use Rattle.rr_nodes.specs.Replays.{HaveAll}
 use Rattle.rr_nodes.proofs.ReplaysLemmas.{first_and_others}
@@ -123,6 +124,7 @@ record HasJoinedSome (s : Layout) (begin : Cursor) (rs : List Raw) (start f : Fo
   meanings : List Meaning
   read : meanings_of s first ≡ Ok meanings
   place : f.place ≡ behind_all begin first
+  of_schema : All (λ c. IsCellOf s (owned_cell c)) f.waiting
   since : Holds s (cells_of f.keeper) (cells_of start.keeper)
   held : (e : NamedCell) → Contains (cells_of_all meanings) e → HeldOrWaits s f e
 
@@ -130,6 +132,9 @@ module _ (s : Layout) (is : IsLayout s) (begin : Cursor) (rs : List Raw) (can : 
     (start : Follower) (starts : IsStart s begin start) where
   abbrev text : List ℕ
   text = records_text begin.digest rs
+
+  abbrev IsOf : Cell → Type 0
+  IsOf c = IsCellOf s (owned_cell c)
 
   abbrev Joined : Follower → Type 0
   Joined f = HasJoinedSome s begin rs start f
@@ -143,6 +148,7 @@ module _ (s : Layout) (is : IsLayout s) (begin : Cursor) (rs : List Raw) (can : 
     meanings = [];
     read = refl;
     place = starts.place ∙ behind_none begin (let short = can.short in omega (arith, short));
+    of_schema = subst (λ (l : List Cell). All IsOf l) (sym starts.waiting) (All-from_recursion IsOf [] tt);
     since = join_itself s (cells_of start.keeper) is starts.live;
     held = λ e has. absurd (nowhere e has);
   }
@@ -156,6 +162,7 @@ module _ (s : Layout) (is : IsLayout s) (begin : Cursor) (rs : List Raw) (can : 
     meanings = has.meanings;
     read = has.read;
     place = h.place ∙ has.place;
+    of_schema = subst (λ (l : List Cell). All IsOf l) (sym h.waiting) has.of_schema;
     since = holds_further s is (cells_of g.keeper) (cells_of f.keeper) (cells_of start.keeper) h.held has.since;
     held = λ e among. ⊎_elim
         (λ before. inl (holds_further s is (cells_of g.keeper) (cells_of f.keeper) (one e) h.held before))
@@ -207,6 +214,7 @@ module _ (s : Layout) (is : IsLayout s) (begin : Cursor) (rs : List Raw) (can : 
         read = meanings_append s has.first next.first has.meanings more.meanings has.read more.read;
         place = ap (λ (y : PeerState). y.place) more.state
             ∙ ap (λ (c : Cursor). behind_all c next.first) has.place ∙ behind_append begin has.first next.first;
+        of_schema = h.of_schema has.of_schema;
         since = subst (λ (c : Cells). Holds s c (cells_of start.keeper)) (sym keeper) has.since;
         held = λ e among. subst (λ (c : Cells). Holds s c (one e) ⊎ Contains (map owned_cell g.waiting) e) (sym keeper)
             (subst (λ (l : List NamedCell). Holds s (cells_of f.keeper) (one e) ⊎ Contains l e) (sym waiting) (⊎_elim
@@ -224,7 +232,11 @@ module _ (s : Layout) (is : IsLayout s) (begin : Cursor) (rs : List Raw) (can : 
       let now = take h.count f.waiting in
       let rest = drop h.count f.waiting in
       let es = map owned_cell now in
-      let after = joined_by f.keeper g.keeper now h.joined in
+      let are : AllByRecursion (λ c. IsCellOf f.keeper.schema (owned_cell c)) now =
+      subst (λ (l : Layout). AllByRecursion (λ c. IsCellOf l (owned_cell c)) now) (sym has.schema)
+      (recursion_from_All IsOf now (All-take IsOf h.count f.waiting has.of_schema)) in
+      let after = joined_by f.keeper g.keeper now
+      (h.joined ∙ cells_of_the_schema_are_joined f.keeper now are) in
       let made : cells_of g.keeper ≡ join_cells s x es =
       after.1 ∙ ap (λ (l : Layout). join_cells l x es) has.schema in
       let trim = holds_trimmed s is x (cells_of start.keeper) has.since in
@@ -238,6 +250,8 @@ module _ (s : Layout) (is : IsLayout s) (begin : Cursor) (rs : List Raw) (can : 
         meanings = has.meanings;
         read = has.read;
         place = h.place ∙ has.place;
+        of_schema = subst (λ (l : List Cell). All IsOf l) (sym h.waiting)
+            (All-drop IsOf h.count f.waiting has.of_schema);
         since = subst (λ (c : Cells). Holds s c (cells_of start.keeper)) (sym made)
             (still_held s is es x (cells_of start.keeper) has.since);
         held = λ e among. subst (λ (c : Cells). Holds s c (one e) ⊎ Contains (map owned_cell g.waiting) e) (sym made)

@@ -1,18 +1,20 @@
 -- Followers: who reads the journal of a peer part by part, and joins what comes, holds all that the peer held.
-use Rattle.std.specs.Prelude.{◌≡◌, ◌⊎◌, ◌+◌, ◌-◌, ◌^◌, ◌<◌, ◌≤◌, ℕ, List, [], ◌∷◌, ◌++◌, drop, take, None, Ok, Contains}
+use Rattle.std.specs.Prelude.{◌≡◌, ◌⊎◌, ◌+◌, ◌-◌, ◌^◌, ◌<◌, ◌≤◌, ℕ, List, [], ◌∷◌, ◌++◌, drop, take, None, Ok, All, Contains}
 use Rattle.std.specs.FinMap.{empty}
 use Rattle.rr_schema.specs.Schema.{Layout, IsLayout}
+use Rattle.rr_cells.specs.CellBounds.{IsCellOf}
 use Rattle.rr_cells.specs.declared.cell.Cell.{Cell}
 use Rattle.rr_cells.specs.declared.op.Op.{Op}
 use Rattle.rr_cells.specs.Cells.{Cells, IsTrimmed}
+use Rattle.rr_cells.specs.Listing.{owned_cell}
 use Rattle.rr_cells.specs.Operations.{AllAccepted}
 use Rattle.rr_changes.specs.Updates.{GoesOn, Holds, Write, AreWrites, last_cells, written_cells}
 use Rattle.rr_changes.specs.Checkpoints.{Batch, GoesForward, walked}
 use Rattle.rr_desk.specs.KeeperState.{KeeperState, cells_of, own_replica}
-use Rattle.rr_desk.specs.ReaderState.{with_joined}
 use Rattle.rr_journal.specs.declared.cursor.Cursor.{Cursor}
 use Rattle.rr_journal.specs.Text.{AllFit, Raw, records_len, records_text}
 use Rattle.rr_replication.specs.Reading.{after_part, peer_state}
+use Rattle.rr_batch.specs.Peers.{joined_to}
 use Rattle.rr_nodes.specs.Replays.{HaveAll}
 
 -- who follows a journal: its keeper, how far the journal is read, and the cells of it that aren't joined yet
@@ -24,17 +26,18 @@ pub record Follower : Type 0 where
 -- ---- a step
 
 -- of a text that begins at an offset a part from the follower's place on was read, as the clauses of `Following::take`
--- say: its cells wait behind the others
+-- say: its cells are of the schema, and wait behind the others
 pub record HasReadOn (s : Layout) (begin : ℕ) (text : List ℕ) (f g : Follower) : Type 0 where
   pub len : ℕ
   pub read : after_part s (peer_state f.place f.waiting) (take len (drop (f.place.offset - begin) text))
       ≡ Ok (peer_state g.place g.waiting)
+  pub of_schema : All (λ c. IsCellOf s (owned_cell c)) f.waiting → All (λ c. IsCellOf s (owned_cell c)) g.waiting
   pub keeper : g.keeper ≡ f.keeper
 
--- the first of the cells that wait were joined, as `join_cells` joins those of the schema
+-- the first of the cells that wait were joined, as `join_cells` does
 pub record HasJoinedFirst (f g : Follower) : Type 0 where
   pub count : ℕ
-  pub joined : g.keeper ≡ with_joined f.keeper (take count f.waiting)
+  pub joined : g.keeper ≡ joined_to f.keeper (take count f.waiting)
   pub waiting : g.waiting ≡ drop count f.waiting
   pub place : g.place ≡ f.place
 
