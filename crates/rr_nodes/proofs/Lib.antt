@@ -9,3 +9,4 @@ pub mod WholeSessions
 pub mod ExampleLemmas
 pub mod JournalsLemmas
 pub mod ReplaysLemmas
+pub mod FollowersLemmas

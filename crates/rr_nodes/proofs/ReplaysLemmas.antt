@@ -40,7 +40,7 @@ abbrev Meanings : Type 0
 Meanings = Result (List Meaning) JournalFault
 
 -- the meanings of a record and those after it
-first_and_others : (s : Layout) (r : Raw) (rs : List Raw) (ms : List Meaning) → meanings_of s (r ∷ rs) ≡ Ok ms
+pub first_and_others : (s : Layout) (r : Raw) (rs : List Raw) (ms : List Meaning) → meanings_of s (r ∷ rs) ≡ Ok ms
     → (m : Meaning) × (others : List Meaning) × (meanings_of s rs ≡ Ok others) × (ms ≡ m ∷ others)
     × (record_meaning s r ≡ Ok m)
 first_and_others s r rs ms e = by (record_meaning s r) (meanings_of s rs) refl refl e

@@ -9,3 +9,4 @@ pub mod Sessions
 pub mod Example
 pub mod Journals
 pub mod Replays
+pub mod Followers

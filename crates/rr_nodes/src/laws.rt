@@ -3,6 +3,7 @@ ghost use Rattle.rr_nodes.specs.Laws.{NodesAreOfSamples, FetchesAreOfSamples, Mo
 ghost use Rattle.rr_nodes.specs.Keepers.{OpeningIsANode, PutIsADeed, WriteIsDeeds, JoinIsADeed, PageIsDeeds, PublishIsNone, ReopeningIsNone, ReadersSeeMoments, ReadersAnswerFromSamples, ReadersAnswerAlike};
 ghost use Rattle.rr_nodes.specs.Example.{ThreeAnswer};
 ghost use Rattle.rr_nodes.specs.Calls.{CallsAnswerFromSamples, WritesArePuts, PagesAreJoins};
+ghost use Rattle.rr_nodes.specs.Followers.{CheckpointedHoldAll, FollowersHoldAll, KeepersGoOn};
 ghost use Rattle.rr_nodes.specs.Giving.{GivenAreThere, UnusedHaveNoCells, SavedIsLoadedElsewhere};
 ghost use Rattle.rr_nodes.specs.Journals.{WrittenWereHeld, CheckpointsWereHeld, WalksWereHeld, ReadCellsAreDeeds, ReadCellsAreAKeepers, ReadCellsAreJoins, NodesOnlyAdd, HoldersKnowAll, TakenAreHeld, JournalsBringAll, CheckpointedBringAll, WalkedBringAll};
 ghost use Rattle.rr_nodes.specs.Models.{cell_model, sample_model};
@@ -134,6 +135,16 @@ pub fn replays_are_deeds()
     ensures prefixes { PrefixesAreDeeds }
     ensures synced { SyncedBringAll }
     ensures last { ReplaysMakeTheLast }
+{}
+
+/// So it is by the calls of a node that follows another: part by part it reads what the journal has from
+/// its place on, and joins the cells. Once it is behind what was written up to some write, it holds all
+/// that the other held then, whatever else its keeper did; also where it read a checkpoint first, and
+/// then the journal from where that begins.
+pub fn followers_hold_all()
+    ensures others { KeepersGoOn }
+    ensures journal { FollowersHoldAll }
+    ensures checkpoint { CheckpointedHoldAll }
 {}
 
 /// Three nodes, of which one took a page twice and one the first cell of it alone: each answers by

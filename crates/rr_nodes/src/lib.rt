@@ -12,8 +12,8 @@
 //! and so is a session by its bytes, whole or cut (`specs/Sessions.antt`). What stands in a journal
 //! are cells of moments, so to read one, cut anywhere, twice and in any order, is to take cells, a
 //! deed for each; and who took all that was written up to some moment holds all that was there then
-//! (`specs/Journals.antt`, and by the journal's bytes `specs/Replays.antt`). `specs/Example.antt` has
-//! three nodes, with their answers.
+//! (`specs/Journals.antt`, by the journal's bytes `specs/Replays.antt`, and by the calls of a node that
+//! follows another `specs/Followers.antt`). `specs/Example.antt` has three nodes, with their answers.
 #![tactic(auto)]
 
 pub mod laws;

@@ -1,14 +1,21 @@
 -- How a node reads on in the store of a peer.
-use Rattle.std.specs.Prelude.{◌≡◌, ℕ, Bool, true, false, List, Option, None, Some, IfSome, Result, Ok}
+use Rattle.std.specs.Prelude.{◌≡◌, ℕ, nat_eq, Bool, true, false, List, take, drop, Option, None, Some, IfSome, unwrap_or, Result, Ok}
+use Rattle.std.specs.Cmp.Lexicographic.{pointwise}
+use Rattle.std.specs.List.{find}
+use Rattle.rr_text.specs.Results.{GivesUnless}
+use Rattle.rr_schema.specs.Schema.{Layout}
 use Rattle.rr_cells.specs.declared.cell.Cell.{Cell}
 use Rattle.rr_journal.specs.declared.cursor.Cursor.{Cursor}
-use Rattle.rr_schema.specs.Schema.{Layout}
-use Rattle.rr_text.specs.Results.{GivesUnless}
+use Rattle.rr_journal.specs.Cursor.{start}
+use Rattle.rr_journal.specs.Header.{header_at, header_len}
+use Rattle.rr_recovery.specs.Found.{with_cursor}
+use Rattle.rr_replication.specs.declared.answer.PeerAnswer.{PeerAnswer}
 use Rattle.rr_replication.specs.declared.fault.PartFault.{PartFault}
 use Rattle.rr_replication.specs.declared.fault.PartFault.TheVariants.{Memory}
 use Rattle.rr_replication.specs.declared.following.Following.{Following}
 use Rattle.rr_replication.specs.declared.following.Next.{Next}
 use Rattle.rr_replication.specs.declared.following.Next.TheVariants.{More, UpToDate}
+use Rattle.rr_replication.specs.declared.peer_fault.PeerFault.{PeerFault}
 use Rattle.rr_replication.specs.declared.position.Position.{Position}
 use Rattle.rr_replication.specs.declared.position.Position.TheVariants.{Journal, Newest, Checkpoint}
 use Rattle.rr_replication.specs.Position.{greeting_target, target_of}
@@ -19,6 +26,8 @@ abbrev pub ReadsOn : Layout → PeerState → List Cell → List ℕ → Result 
 ReadsOn s before cells bytes result =
     GivesUnless Memory (λ end. peer_state end cells) result (after_part s before bytes)
 
+-- ---- what is asked for
+
 -- what is asked for by where a node is, if its peer was greeted, and else by the greeting
 abbrev pub target_by : Layout → Bool → Option Position → List ℕ
 target_by s true (Some position) = target_of s position
@@ -27,6 +36,16 @@ target_by s false position = greeting_target s
 
 abbrev pub asked_target : Layout → Following → List ℕ
 asked_target s f = target_by s f.is_greeted f.position
+
+-- where the node is that asks for it; nowhere, if it asks for the greeting
+abbrev pub position_by : Bool → Option Position → Option Position
+position_by true position = position
+position_by false position = None
+
+abbrev pub asked_position : Following → Option Position
+asked_position f = position_by f.is_greeted f.position
+
+-- ---- the journal
 
 -- the place in the journal from which on that is asked for, if it is of the journal
 abbrev pub place_by : Bool → Option Position → Option Cursor
@@ -48,3 +67,99 @@ read_in UpToDate = None
 abbrev pub IsReadUpTo : Layout → Cursor → List Cell → List ℕ → List Cell → Next → Type 0
 IsReadUpTo s place had bytes cells next =
     IfSome (read_in next) (λ end. after_part s (peer_state place had) bytes ≡ Ok (peer_state end cells))
+
+-- where the node is then: behind what was read; before the newest checkpoint, if the peer no longer has what was asked
+-- for; or where it was, if there is nothing new
+abbrev pub after_journal : Cursor → Next → Position
+after_journal place (More (Some end)) = Journal end
+after_journal place (More None) = Newest
+after_journal place UpToDate = Journal place
+
+-- ---- a checkpoint
+
+-- whether the newest one is asked for
+abbrev pub newest_by : Bool → Option Position → Bool
+newest_by true (Some Newest) = true
+newest_by true (Some (Journal place)) = false
+newest_by true (Some (Checkpoint begins place)) = false
+newest_by true None = false
+newest_by false position = false
+
+abbrev pub asks_newest : Following → Bool
+asks_newest f = newest_by f.is_greeted f.position
+
+-- these bytes begin with the header of a file of this schema that begins at a place of a journal
+abbrev pub FileBegins : Layout → List ℕ → Cursor → Type 0
+FileBegins s bytes begins = (rest : List ℕ) × (header_at s (take (header_len s) bytes) ≡ Ok (begins, rest))
+
+-- a checkpoint was begun: the header of its file says where it begins in the journal of this id, the rest was read as a
+-- part from there on, and the node is behind that part; the journal is read no further
+pub record IsBegun (s : Layout) (id : List ℕ) (had : List Cell) (bytes : List ℕ) (cells : List Cell)
+    (position : Option Position) (next : Next) : Type 0 where
+  pub begins : Cursor
+  pub end : Cursor
+  pub header : FileBegins s bytes begins
+  pub of_peer : begins.id ≡ id
+  pub read : after_part s (peer_state begins had) (drop (header_len s) bytes) ≡ Ok (peer_state end cells)
+  pub position_is : position ≡ Some (Checkpoint begins end)
+  pub next_is : next ≡ More None
+
+-- of the checkpoint that is gone on with, if one is: where it begins, and how far it is read
+abbrev pub checkpoint_by : Bool → Option Position → Option (Cursor × Cursor)
+checkpoint_by true (Some (Checkpoint begins place)) = Some (begins, place)
+checkpoint_by true (Some Newest) = None
+checkpoint_by true (Some (Journal place)) = None
+checkpoint_by true None = None
+checkpoint_by false position = None
+
+abbrev pub asked_checkpoint : Following → Option (Cursor × Cursor)
+asked_checkpoint f = checkpoint_by f.is_greeted f.position
+
+-- a part of it was read from there on, and the node is behind that part
+pub record IsReadOn (s : Layout) (at : Cursor × Cursor) (had : List Cell) (bytes : List ℕ) (cells : List Cell)
+    (position : Option Position) (next : Next) : Type 0 where
+  pub end : Cursor
+  pub read : after_part s (peer_state at.1 had) bytes ≡ Ok (peer_state end cells)
+  pub position_is : position ≡ Some (Checkpoint at.0 end)
+  pub next_is : next ≡ More None
+
+-- the checkpoint has no more: no cells were added, and the journal is gone on with from where the checkpoint begins
+pub record IsAtEnd (at : Cursor × Cursor) (had cells : List Cell) (position : Option Position)
+    (result : Result Next PeerFault) : Type 0 where
+  pub same : cells ≡ had
+  pub position_is : position ≡ Some (Journal at.0)
+  pub result_is : result ≡ Ok (More (Some at.0))
+
+-- ---- the greeting
+
+-- where the journal of an id was read up to, or where it begins
+abbrev pub known_place : List Cursor → List ℕ → Cursor
+known_place known id = unwrap_or (find (λ c. pointwise nat_eq c.id id) known) (start id)
+
+-- how far journals were read, with the one that the node is in
+abbrev pub places_by : List Cursor → Option Position → List Cursor
+places_by known (Some (Journal place)) = with_cursor known place
+places_by known (Some Newest) = known
+places_by known (Some (Checkpoint begins place)) = known
+places_by known None = known
+
+abbrev pub places_of : Following → List Cursor
+places_of f = places_by f.known.items f.position
+
+-- where the node is in the store of a peer with a journal of an id: where it was, if it was in that one's, and else where
+-- that journal was read up to
+abbrev pub greeted_by : Option Position → Bool → Cursor → Position
+greeted_by (Some position) true known = position
+greeted_by (Some position) false known = Journal known
+greeted_by None same known = Journal known
+
+abbrev pub greeted_position : Following → List ℕ → Position
+greeted_position f id = greeted_by f.position (pointwise nat_eq f.id id) (known_place (places_of f) id)
+
+-- the peer was greeted, and told the id of its journal, which says where the node is then
+pub record IsGreeted (old : Following) (answer : PeerAnswer) (new : Following) (next : Next) : Type 0 where
+  pub status : answer.status ≡ 204
+  pub told : answer.id ≡ Some new.id
+  pub position : new.position ≡ Some (greeted_position old new.id)
+  pub greeted : new.is_greeted ≡ true
+  pub next_is : next ≡ More None

@@ -1,6 +1,10 @@
 //! How a node follows the journal of a peer.
 
-ghost use Rattle.std.specs.Prelude.{◌≡◌, IfOk, IfSome, None, OnErr};
+ghost use Rattle.std.specs.Prelude.{◌≡◌, true, nat_eq, All, IfOk, IfSome, None, OnErr, OnOk, Some};
+ghost use Rattle.std.specs.Cmp.Lexicographic.{pointwise};
+ghost use Rattle.std.specs.List.{find};
+ghost use Rattle.rr_cells.specs.CellBounds.{IsCellOf};
+ghost use Rattle.rr_cells.specs.Listing.{owned_cell};
 ghost use Rattle.rr_replication.specs.Following.{IsReadUpTo, ReadsOn};
 ghost use Rattle.rr_replication.specs.Reading.{peer_state};
 
@@ -55,6 +59,8 @@ fn read_on(
 ) -> Result<Cursor, PartFault>
     ensures read { ReadsOn schema.now (peer_state place cells.old.items) cells.new.items bytes.now
         result }
+    ensures of_schema { OnOk result (All (λ c. IsCellOf schema.now (owned_cell c)) cells.old.items
+        → All (λ c. IsCellOf schema.now (owned_cell c)) cells.new.items) }
     ensures refused { OnErr result (cells.new.items ≡ cells.old.items) }
 {
     let mut end = place;
@@ -79,8 +85,17 @@ fn status_fault(status: u16) -> PeerFault {
     }
 }
 
+/// The first of these cursors that is of the journal of an id.
+fn cursor_of(cursors: &[Cursor], id: [u8; ID_LEN]) -> Option<Cursor>
+    ensures { result ≡ find (λ c. pointwise nat_eq c.id id) cursors.now }
+{
+    cursors.iter().find(|cursor| cursor.id == id).copied()
+}
+
 impl Following {
-    ghost use Rattle.rr_replication.specs.Following.{asked_place, asked_target, read_in};
+    ghost use Rattle.rr_replication.specs.declared.position.Position.TheVariants.{Journal, Newest};
+    ghost use Rattle.rr_replication.specs.declared.following.Next.TheVariants.{More};
+    ghost use Rattle.rr_replication.specs.Following.{IsAtEnd, IsBegun, IsGreeted, IsReadOn, after_journal, asked_checkpoint, asked_place, asked_position, asked_target, asks_newest, known_place, places_of};
 
     /// Follows a peer from where the journal of its id was read up to, if that is one of these, and
     /// else from the beginning.
@@ -119,17 +134,21 @@ impl Following {
     }
 
     /// Where the journal of an id was read up to, or where it begins.
-    fn known_place(&self, id: [u8; ID_LEN]) -> Cursor {
-        for known in &self.known {
-            if known.id == id {
-                return *known;
-            }
+    fn known_place(&self, id: [u8; ID_LEN]) -> Cursor
+        ensures { result ≡ known_place self.now.known.items id }
+    {
+        match cursor_of(&self.known, id) {
+            Some(known) => known,
+            None => Cursor::start(id),
         }
-        Cursor::start(id)
     }
 
     /// Keeps how far the journal is read that the node is in, in place of what was known of it.
-    fn keep_place(&mut self) -> Result<(), AllocError> {
+    fn keep_place(&mut self) -> Result<(), AllocError>
+        ensures known { OnOk result (self.new.known.items ≡ places_of self.old) }
+        ensures position { self.new.position ≡ self.old.position }
+        ensures id { self.new.id ≡ self.old.id }
+    {
         let Some(Position::Journal(place)) = self.position else {
             return Ok(());
         };
@@ -138,7 +157,9 @@ impl Following {
 
     /// Takes the answer to a greeting: where the peer's journal is. Another one than before is begun
     /// with where it was read up to.
-    fn take_greeting(&mut self, answer: &PeerAnswer) -> Result<Next, PeerFault> {
+    fn take_greeting(&mut self, answer: &PeerAnswer) -> Result<Next, PeerFault>
+        ensures { IfOk result (IsGreeted self.old answer.now self.new) }
+    {
         if answer.status != 204 {
             return Err(status_fault(answer.status));
         }
@@ -157,7 +178,9 @@ impl Following {
     /// Begins with the newest checkpoint, since the peer has no more the bytes that were asked for. A
     /// peer of which that is so again and again isn't followed at once.
     fn begin_again(&mut self) -> Result<Next, PeerFault>
-        ensures { IfOk result (λ next. read_in next ≡ None) }
+        ensures next { IfOk result (λ next. next ≡ More None) }
+        ensures position { self.new.position ≡ Some Newest }
+        ensures peer { self.new.id ≡ self.old.id }
     {
         self.position = Some(Position::Newest);
         if self.is_beginning {
@@ -177,8 +200,13 @@ impl Following {
         schema: &Schema,
         cells: &mut Vec<Cell>,
     ) -> Result<Next, PeerFault>
+        requires { self.old.position ≡ Some (Journal place) }
         ensures read { IfOk result (IsReadUpTo schema.now place cells.old.items answer.now.body.items
             cells.new.items) }
+        ensures position { IfOk result (λ next. self.new.position ≡ Some (after_journal place next)) }
+        ensures peer { self.new.id ≡ self.old.id }
+        ensures of_schema { OnOk result (All (λ c. IsCellOf schema.now (owned_cell c)) cells.old.items
+            → All (λ c. IsCellOf schema.now (owned_cell c)) cells.new.items) }
         ensures refused { OnErr result (cells.new.items ≡ cells.old.items) }
     {
         match answer.status {
@@ -211,6 +239,11 @@ impl Following {
         schema: &Schema,
         cells: &mut Vec<Cell>,
     ) -> Result<Next, PeerFault>
+        ensures begun { IfOk result (IsBegun schema.now self.old.id cells.old.items
+            answer.now.body.items cells.new.items self.new.position) }
+        ensures peer { self.new.id ≡ self.old.id }
+        ensures of_schema { OnOk result (All (λ c. IsCellOf schema.now (owned_cell c)) cells.old.items
+            → All (λ c. IsCellOf schema.now (owned_cell c)) cells.new.items) }
         ensures refused { OnErr result (cells.new.items ≡ cells.old.items) }
     {
         match answer.status {
@@ -245,6 +278,13 @@ impl Following {
         schema: &Schema,
         cells: &mut Vec<Cell>,
     ) -> Result<Next, PeerFault>
+        ensures part { answer.now.status ≡ 200 → IfOk result (IsReadOn schema.now (begins, place)
+            cells.old.items answer.now.body.items cells.new.items self.new.position) }
+        ensures end { answer.now.status ≡ 204 → IsAtEnd (begins, place) cells.old.items cells.new.items
+            self.new.position result }
+        ensures peer { self.new.id ≡ self.old.id }
+        ensures of_schema { OnOk result (All (λ c. IsCellOf schema.now (owned_cell c)) cells.old.items
+            → All (λ c. IsCellOf schema.now (owned_cell c)) cells.new.items) }
         ensures refused { OnErr result (cells.new.items ≡ cells.old.items) }
     {
         match answer.status {
@@ -270,7 +310,8 @@ impl Following {
 
     /// Takes the answer to the last request, which [`Following::target`] gave, and adds the cells that
     /// it has behind `cells`. Where bytes of the journal were asked for, they are those of a part that
-    /// was given from its place on, as [`read_part`] reads one.
+    /// was given from its place on, as [`read_part`] reads one. So are those of a checkpoint, from where
+    /// it begins on, behind the header of its file; at its end the journal is gone on with from there.
     ///
     /// Refused as `SchemaDiffers` by the peer; as `Gone` where it has neither the journal from here on
     /// nor a checkpoint; as [`PartFault`] says where its bytes don't go on from here or mean nothing:
@@ -284,6 +325,20 @@ impl Following {
     ) -> Result<Next, PeerFault>
         ensures read { IfSome (asked_place self.old) (λ place. IfOk result (IsReadUpTo schema.now
             place cells.old.items answer.now.body.items cells.new.items)) }
+        ensures journal { IfSome (asked_place self.old) (λ place. IfOk result (λ next.
+            self.new.position ≡ Some (after_journal place next))) }
+        ensures newest { asks_newest self.old ≡ true → IfOk result (IsBegun schema.now self.old.id
+            cells.old.items answer.now.body.items cells.new.items self.new.position) }
+        ensures part { IfSome (asked_checkpoint self.old) (λ at. answer.now.status ≡ 200
+            → IfOk result (IsReadOn schema.now at cells.old.items answer.now.body.items cells.new.items
+            self.new.position)) }
+        ensures end { IfSome (asked_checkpoint self.old) (λ at. answer.now.status ≡ 204
+            → IsAtEnd at cells.old.items cells.new.items self.new.position result) }
+        ensures greeting { asked_position self.old ≡ None → IfOk result (IsGreeted self.old answer.now
+            self.new) }
+        ensures peer { IfSome (asked_position self.old) (λ position. self.new.id ≡ self.old.id) }
+        ensures of_schema { OnOk result (All (λ c. IsCellOf schema.now (owned_cell c)) cells.old.items
+            → All (λ c. IsCellOf schema.now (owned_cell c)) cells.new.items) }
         ensures refused { OnErr result (cells.new.items ≡ cells.old.items) }
     {
         match self.position {

@@ -20,7 +20,8 @@
 //!                   └── read_record ─> record ── decode ─> groups ── Decoder ─> cell
 //! ```
 //!
-//! In `specs/` both are functions of their arguments (`Part.antt`, `Reading.antt`). [`laws`] says
+//! In `specs/` both are functions of their arguments (`Part.antt`, `Reading.antt`), and what an answer
+//! makes of a [`Following`] is said by what was asked for (`Following.antt`). [`laws`] says
 //! that parts asked for one after the other are the journal's bytes up to its end, without gap or
 //! overlap (`Files.antt`); that a peer that asks again and again is refused none of them, and has
 //! the cells of all records in the end; and that a map these are joined to holds all that the
