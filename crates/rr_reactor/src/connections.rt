@@ -46,7 +46,7 @@ pub struct Connections<S> {
     pub(crate) waiters: Vec<Waiter>,
     /// The key of the first of them, until it is gone.
     pub(crate) first: Option<usize>,
-    /// How much that one needs in all, of those that wait for memory since then, which needs least.
+    /// The least that a connection needs in all which had to wait for memory since then.
     pub(crate) least: usize,
     /// Whether the queue of writes is behind, and that of fetches.
     writes_behind: bool,
