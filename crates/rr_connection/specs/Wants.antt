@@ -1,5 +1,9 @@
 -- What a connection waits for, and how much is allocated for it.
-use Rattle.std.specs.Prelude.{ℕ, ◌+◌, Bool, true, false, not, ◌&&◌, ◌||◌, Option, Some, None, is_some, length, vec_capacity, nat_le, nat_lt, ◌==◌}
+use Rattle.std.specs.Prelude.{ℕ, ◌+◌, Bool, true, false, not, ◌&&◌, ◌||◌, Option, Some, None, is_some, length, min, vec_capacity, nat_le, nat_lt, ◌==◌}
+use Rattle.http1.specs.declared.conn.BodySize.{BodySize}
+use Rattle.http1.specs.declared.conn.BodySize.TheVariants.{Known, Unknown, Empty}
+use Rattle.http1.specs.Conn.{unread_size}
+use Rattle.http1.specs.Server.{reading}
 use Rattle.rr_connection.specs.declared.http.HttpConnection.{HttpConnection}
 use Rattle.rr_connection.specs.declared.http.Phase.{Phase}
 use Rattle.rr_connection.specs.declared.http.Phase.TheVariants.{Receives, Waits, Over}
@@ -34,3 +38,14 @@ part_room (Some part) = vec_capacity part.body
 abbrev pub allocated : HttpConnection → ℕ
 allocated c =
     (length c.unread.items + c.unread.spare) + (length c.unsent.items + c.unsent.spare) + part_room c.part
+
+-- how many bytes a body has in all, of which this part came and this is left: at most as many as one may have, and as many
+-- if that isn't known
+abbrev pub size_with : ℕ → Option Request → BodySize → ℕ
+size_with max None left = 0
+size_with max (Some part) (Known left) = min (length part.body.items + left) max
+size_with max (Some part) Unknown = max
+size_with max (Some part) Empty = min (length part.body.items + 0) max
+
+abbrev pub body_size : HttpConnection → ℕ
+body_size c = size_with c.max_body c.part (unread_size (reading c.server))

@@ -1,6 +1,6 @@
 //! A connection of HTTP/1.1.
 
-ghost use Rattle.std.specs.Prelude.{◌≡◌, ◌++◌, List, [], ℕ, min, drop, length, OnOk, None, ◌==◌, not};
+ghost use Rattle.std.specs.Prelude.{◌≡◌, ◌++◌, List, [], ℕ, min, drop, length, OnOk, None, ◌==◌, ◌+◌, not};
 ghost use Rattle.http1.specs.declared.conn.Limits.{Limits};
 ghost use Rattle.rr_connection.specs.Stands.{Asked, RequestList};
 ghost use Rattle.rr_connection.specs.Wants.{part_room};
@@ -8,7 +8,7 @@ ghost use Rattle.rr_connection.specs.Wants.{part_room};
 use crate::request::Request;
 use crate::room::{MAX_UNREAD, MAX_UNSENT, release};
 use bytes::BytesMut;
-use http1::{Limits, Server};
+use http1::{BodySize, Limits, Server};
 use std::alloc::{AllocError, Global};
 
 /// A head has at most this many fields, and a body as many trailers.
@@ -56,7 +56,7 @@ fn part_room(part: &Option<Request>) -> usize
 impl HttpConnection {
     ghost use Rattle.rr_connection.specs.Stands.{HasGiven, Keeps, is_ready, unsent_of};
     ghost use Rattle.rr_connection.specs.Wants.{allocated, is_over, is_within_body, is_within_request};
-    ghost use Rattle.rr_connection.specs.Wants.{wants_read};
+    ghost use Rattle.rr_connection.specs.Wants.{body_size, wants_read};
 
     /// A connection that has received nothing, with a body of at most `max_body` bytes.
     pub fn new(alloc: Global, limits: Limits, max_body: usize) -> HttpConnection
@@ -130,6 +130,30 @@ impl HttpConnection {
         ensures { result ≡ is_within_body self.now }
     {
         self.phase == Phase::Receives && self.part.is_some()
+    }
+
+    /// How many bytes the body has in all that is being received, at most as many as one may have:
+    /// as many if its head doesn't say how many. None if no body is being received.
+    pub fn body_size(&self) -> usize
+        ensures { result ≡ body_size self.now }
+    {
+        let Some(part) = &self.part else {
+            return 0;
+        };
+        let came = part.body.len();
+        match self.server.unread_size() {
+            BodySize::Known(left) => self.whole(came, left),
+            BodySize::Unknown => self.max_body,
+            BodySize::Empty => self.whole(came, 0),
+        }
+    }
+
+    /// How many bytes a body has of which so many came and so many are left.
+    fn whole(&self, came: usize, left: u64) -> usize
+        ensures { result ≡ min (came + left) self.now.max_body }
+    {
+        let whole = left.saturating_add(came as u64);
+        whole.min(self.max_body as u64) as usize
     }
 
     /// How many bytes of memory are held for it, counted as allocated and not as filled.

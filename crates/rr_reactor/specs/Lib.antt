@@ -1,3 +1,4 @@
+pub mod Order
 pub mod Limits
 pub mod Watch
 pub mod Pace

@@ -1,7 +1,9 @@
 -- What connections may take.
-use Rattle.std.specs.Prelude.{ℕ, ◌-◌, ◌/◌, Bool, ◌||◌, max, nat_le, nat_lt, if◌then◌else◌}
+use Rattle.std.specs.Prelude.{ℕ, ◌-◌, ◌/◌, Bool, ◌||◌, max, min, nat_le, nat_lt, if◌then◌else◌}
 use Rattle.rr_reactor.specs.declared.limits.Limits.{Limits}
 use Rattle.rr_reactor.specs.declared.limits.TheConstants.{PART, SMALL}
+use Rattle.rr_reactor.specs.declared.order.Rank.{Rank}
+use Rattle.rr_reactor.specs.declared.order.Rank.TheVariants.{First, Behind}
 
 -- how many bytes are free
 abbrev pub free : Limits → ℕ → ℕ
@@ -11,13 +13,15 @@ free limits all = limits.held - all
 abbrev pub room : Limits → ℕ → ℕ
 room limits all = limits.received - all
 
--- a connection may hold a quarter of the room that is left, and always a little
-abbrev pub share : Limits → ℕ → ℕ
-share limits all = max (room limits all / PART) SMALL
+-- a connection that holds little may be read a little
+abbrev pub little : ℕ → ℕ
+little own = if nat_le own SMALL then SMALL else 0
 
--- a connection that holds no more than its share may be read as much at once
-abbrev pub may_read : Limits → ℕ → ℕ → ℕ
-may_read limits all own = if nat_le own (share limits all) then share limits all else 0
+-- the one that waits first may be read as much as there is room for; another one as much as it needs in all, if there is
+-- room for that, and none waits that needs less
+abbrev pub may_read : Limits → Rank → ℕ → ℕ → ℕ → ℕ
+may_read limits First all own needs = max (room limits all) (little own)
+may_read limits (Behind least) all own needs = if nat_le needs (min (room limits all) least) then needs else little own
 
 -- an answer fits, or is small
 abbrev pub takes : Limits → ℕ → ℕ → Bool

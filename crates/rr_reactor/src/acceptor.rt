@@ -12,6 +12,21 @@ pub(crate) enum Kind {
     Lines,
 }
 
+/// The process has no file descriptor left, or the system has none.
+const EMFILE: i32 = 24;
+
+const ENFILE: i32 = 23;
+
+/// What came of taking the next connection.
+#[derive(Drop)]
+pub(crate) enum Accepted {
+    Stream(TcpStream),
+    /// One waits, and there is no file descriptor for it.
+    NoDescriptor,
+    /// None waits, or it can't be taken.
+    Nothing,
+}
+
 /// A listener, and whether connections may wait there.
 #[derive(Drop)]
 pub(crate) struct Acceptor {
@@ -44,15 +59,18 @@ impl Acceptor {
         self.listener.local_addr()
     }
 
-    /// The next connection, unless none waits or it can't be taken.
-    pub(crate) fn accept(&mut self) -> Option<TcpStream> {
+    /// The next connection, if one waits and can be taken.
+    pub(crate) fn accept(&mut self) -> Accepted {
         match self.listener.accept() {
-            Ok((stream, _)) => Some(stream),
+            Ok((stream, _)) => Accepted::Stream(stream),
             Err(error) => {
                 if error.kind() == io::ErrorKind::WouldBlock {
                     self.is_ready = false;
                 }
-                None
+                match error.raw_os_error() {
+                    Some(code) if code == EMFILE || code == ENFILE => Accepted::NoDescriptor,
+                    _ => Accepted::Nothing,
+                }
             }
         }
     }

@@ -5,6 +5,7 @@ ghost use Rattle.rr_reactor.specs.Connection.{GivesOne, GivesStep, IsOut, item_o
 
 use crate::item::{Outcome, Work};
 use crate::limits::Limits;
+use crate::order::{Rank, Waiter};
 use crate::pace::{Holder, Pace};
 use crate::protocol::Protocol;
 use crate::socket::{Moved, Socket, moved_by};
@@ -86,6 +87,19 @@ impl<S: Socket> Connection<S> {
     /// Whether it could be read on, except that too much memory is held.
     pub(crate) fn is_held_up(&self) -> bool {
         self.out.is_none() && !self.is_queued && self.can_read()
+    }
+
+    /// What it is among those that wait for memory.
+    pub(crate) fn waiter(&self, key: usize) -> Option<Waiter> {
+        if self.is_held_up() {
+            Some(Waiter {
+                key,
+                needs: self.protocol.needs(),
+                since: self.watch.since,
+            })
+        } else {
+            None
+        }
     }
 
     /// Notes that it is to be moved on again, or that it was, and says whether that was noted before.
@@ -296,12 +310,19 @@ impl<S: Socket> Connection<S> {
     }
 
     /// Moves on, until something is asked for or it has to wait.
-    fn move_on(&mut self, scratch: &mut [u8], limits: &Limits, others: usize) -> Progress
+    fn move_on(
+        &mut self,
+        scratch: &mut [u8],
+        limits: &Limits,
+        rank: Rank,
+        others: usize,
+    ) -> Progress
         ensures { GivesStep (item_of self.old) result (item_of self.new) }
     {
         for _ in 0..STEPS {
             let own = self.held();
-            let most = limits.may_read(others.saturating_add(own), own);
+            let all = others.saturating_add(own);
+            let most = limits.may_read(rank, all, own, self.protocol.needs());
             let size = scratch.len().min(most);
             match self.step(&mut scratch[..size]) {
                 Progress::Goes => {}
@@ -335,17 +356,19 @@ impl<S: Socket> Connection<S> {
         self.moved = 0;
     }
 
-    /// Moves on, where other connections hold so much memory, and sets its watch.
+    /// Moves on, where other connections hold so much memory and it stands so among those that wait for
+    /// some, and sets its watch.
     pub(crate) fn pump(
         &mut self,
         scratch: &mut [u8],
         limits: &Limits,
+        rank: Rank,
         others: usize,
         now: u64,
     ) -> Progress
         ensures { GivesStep (item_of self.old) result (item_of self.new) }
     {
-        let progress = self.move_on(scratch, limits, others);
+        let progress = self.move_on(scratch, limits, rank, others);
         self.note_pace(now);
         progress
     }

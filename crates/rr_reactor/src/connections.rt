@@ -7,7 +7,7 @@ ghost use Rattle.rr_reactor.specs.Connections.{count_of, most_of};
 use crate::connection::{Connection, Progress};
 use crate::item::{Item, Outcome, Work};
 use crate::limits::Limits;
-use crate::pace::{Holder, first_to_free};
+use crate::order::{Rank, Waiter};
 use crate::protocol::Protocol;
 use crate::socket::Socket;
 use crate::watch::first_to_go;
@@ -18,9 +18,6 @@ use std::collections::VecDeque;
 
 /// How many bytes are read at a time at most.
 const SCRATCH: usize = 64 * 1024;
-
-/// So many are let go at a sweep, at most, for the memory that is held for them.
-const LET_GO: usize = 64;
 
 /// What was asked for, and is to be handed on.
 #[derive(Drop)]
@@ -35,16 +32,22 @@ pub struct Asked {
 #[derive(Drop)]
 pub struct Connections<S> {
     alloc: Global,
-    limits: Limits,
-    slab: Slab<Connection<S>>,
-    held: usize,
+    pub(crate) limits: Limits,
+    pub(crate) slab: Slab<Connection<S>>,
+    pub(crate) held: usize,
     scratch: Vec<u8>,
     asked: Asked,
     /// The keys of those that can be moved on at once.
     ready: VecDeque<usize>,
     /// Whether one had to wait for memory since others were let go last, and how many bytes the longest
     /// answer has that didn't fit.
-    short: Option<usize>,
+    pub(crate) short: Option<usize>,
+    /// Those that waited for memory at the last sweep, in their order.
+    pub(crate) waiters: Vec<Waiter>,
+    /// The key of the first of them, until it is gone.
+    pub(crate) first: Option<usize>,
+    /// The least that a connection needs in all which had to wait for memory since then.
+    pub(crate) least: usize,
     /// Whether the queue of writes is behind, and that of fetches.
     writes_behind: bool,
     fetches_behind: bool,
@@ -104,6 +107,9 @@ impl<S: Socket> Connections<S> {
             asked,
             ready: VecDeque::with_capacity(alloc, limits.connections)?,
             short: None,
+            waiters: Vec::with_capacity(alloc, limits.connections)?,
+            first: None,
+            least: usize::MAX,
             writes_behind: false,
             fetches_behind: false,
         })
@@ -212,26 +218,49 @@ impl<S: Socket> Connections<S> {
         };
         if is_gone && let Some(connection) = self.slab.try_remove(key) {
             self.held = self.held.saturating_sub(connection.held());
+            if self.first == Some(key) {
+                self.first = None;
+            }
         }
+    }
+
+    /// Where one stands among those that wait for memory.
+    fn rank(&self, key: usize) -> Rank {
+        if self.first == Some(key) {
+            Rank::First
+        } else {
+            Rank::Behind(self.least)
+        }
+    }
+
+    /// Notes that one had to wait for memory.
+    fn note_waiter(&mut self, waiter: Waiter) {
+        self.lack(0);
+        self.least = self.least.min(waiter.needs);
     }
 
     /// Moves one on.
     fn move_one(&mut self, key: usize, now: u64) -> Progress {
+        let rank = self.rank(key);
         let Some(connection) = self.slab.get_mut(key) else {
             return Progress::Waits;
         };
         let others = self.held.saturating_sub(connection.held());
-        let progress = connection.pump(self.scratch.as_mut_slice(), &self.limits, others, now);
-        let waits = matches!(progress, Progress::Waits) && connection.is_held_up();
+        let scratch = self.scratch.as_mut_slice();
+        let progress = connection.pump(scratch, &self.limits, rank, others, now);
+        let waiter = match progress {
+            Progress::Waits => connection.waiter(key),
+            _ => None,
+        };
         self.held = others.saturating_add(connection.held());
-        if waits {
-            self.lack(0);
+        if let Some(waiter) = waiter {
+            self.note_waiter(waiter);
         }
         progress
     }
 
     /// Moves one on, hands on what it asks for, and forgets it if it is gone.
-    fn pump(&mut self, key: usize, now: u64) {
+    pub(crate) fn pump(&mut self, key: usize, now: u64) {
         match self.move_one(key, now) {
             Progress::Waits => {}
             Progress::Goes => self.keep_ready(key),
@@ -294,79 +323,16 @@ impl<S: Socket> Connections<S> {
         self.pump(key, now);
     }
 
-    /// Closes one whose time is over, and says whether there is anything to do for it.
-    fn is_due(&mut self, key: usize, now: u64) -> bool {
-        let Some(connection) = self.slab.get_mut(key) else {
-            return false;
-        };
-        if connection.is_late(&self.limits, now) || connection.is_left() {
-            connection.close();
-            return true;
-        }
-        connection.is_held_up()
-    }
-
-    /// The one that is let go first for the memory that is held for it. The cost is linear in the
-    /// connections.
-    fn first_holder(&self, now: u64) -> Option<Holder> {
-        let mut first = None;
-        for key in 0..self.slab.capacity() {
-            if let Some(connection) = self.slab.get(key) {
-                first = first_to_free(first, connection.holder(&self.limits, key, now));
-            }
-        }
-        first
-    }
-
-    /// Lets stalled ones go where others had no room, 64 at most, and one that is kept waiting if there
-    /// is no other.
-    fn free_memory(&mut self, now: u64) {
-        let Some(wanted) = self.short.take() else {
-            return;
-        };
-        for _ in 0..LET_GO {
-            if !self.limits.must_let_go(self.held, wanted) {
-                return;
-            }
-            let Some(holder) = self.first_holder(now) else {
-                return;
-            };
-            self.let_go(holder.key);
-            if holder.is_kept {
-                return;
-            }
-        }
-    }
-
-    /// Lets those go whose time is over, and stalled ones where others had no room; then goes on with
-    /// those that had to wait for memory. The cost is linear in the connections, for each one that is
-    /// let go for its memory.
-    pub fn sweep(&mut self, now: u64) {
-        self.free_memory(now);
-        for key in 0..self.slab.capacity() {
-            if self.is_due(key, now) {
-                self.pump(key, now);
-            }
-        }
-    }
-
     /// Closes one, and forgets it.
-    fn let_go(&mut self, key: usize) {
+    pub(crate) fn let_go(&mut self, key: usize) {
         if let Some(connection) = self.slab.get_mut(key) {
             connection.close();
         }
         self.forget(key);
     }
-
-    /// Lets one go for a new one, if as many are there as may be, and says whether there is room: the
-    /// one that was idle longest, else the one whose request takes longest. The cost is linear in the
-    /// connections.
-    pub fn make_room(&mut self, now: u64) -> bool
-        ensures { OnTrue result (count_of self.new < most_of self.new) }
-    {
-        if self.slab.len() < self.limits.connections {
-            return true;
-        }
+    /// Lets one go for a new one, and says whether there was one to let go: the one that was idle
+    /// longest, else the one whose request takes longest. The cost is linear in the connections.
+    pub fn let_one_go(&mut self, now: u64) -> bool {
         let mut first = None;
         for key in 0..self.slab.capacity() {
             if let Some(connection) = self.slab.get(key) {
@@ -377,6 +343,17 @@ impl<S: Socket> Connections<S> {
             return false;
         };
         self.let_go(candidate.key);
+        true
+    }
+
+    /// Lets one go for a new one, if as many are there as may be, and says whether there is room.
+    pub fn make_room(&mut self, now: u64) -> bool
+        ensures { OnTrue result (count_of self.new < most_of self.new) }
+    {
+        if self.slab.len() < self.limits.connections {
+            return true;
+        }
+        let _went = self.let_one_go(now);
         self.slab.len() < self.limits.connections
     }
 }

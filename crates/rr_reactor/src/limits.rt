@@ -1,7 +1,9 @@
 //! What connections may take.
 
 ghost use Rattle.std.specs.Prelude.{◌≡◌};
-ghost use Rattle.rr_reactor.specs.Limits.{free, is_behind, may_read, must_let_go, room, takes};
+ghost use Rattle.rr_reactor.specs.Limits.{free, is_behind, little, may_read, must_let_go, room, takes};
+
+use crate::order::Rank;
 
 /// What the connections of a reactor may take. Times are in milliseconds.
 #[derive(Clone, Copy, Debug, PartialEq, Eq)]
@@ -37,7 +39,7 @@ pub(crate) const SMALL: usize = 8 * 1024;
 
 const _: () = prove!(SMALL == 8_192);
 
-/// A connection that is read may hold one of so many parts of the room that is left.
+/// Stalled connections are let go until one of so many parts of all room is left.
 const PART: usize = 4;
 
 const _: () = prove!(PART == 4);
@@ -77,13 +79,19 @@ impl Limits {
     }
 
     /// How many bytes may be read at once for a connection that holds `own` bytes of memory, where all
-    /// hold `all`: as many as a quarter of the room that is left, or 8 KiB if that is more. None if it
-    /// holds more than that already. So many connections leave as much room as four of them hold.
-    pub fn may_read(&self, all: usize, own: usize) -> usize
-        ensures { result ≡ may_read self.now all own }
+    /// hold `all`, and its request needs `needs` in all. As many, if there is room for them and none
+    /// waits that needs less; and for the one that waits first, as many as there is room for. Else 8 KiB
+    /// while it holds no more than that.
+    pub fn may_read(&self, rank: Rank, all: usize, own: usize, needs: usize) -> usize
+        ensures { result ≡ may_read self.now rank all own needs }
     {
-        let share = (self.room(all) / PART).max(SMALL);
-        if own <= share { share } else { 0 }
+        let little = if own <= SMALL { SMALL } else { 0 };
+        let room = self.room(all);
+        match rank {
+            Rank::First => room.max(little),
+            Rank::Behind(least) if needs <= room.min(least) => needs,
+            Rank::Behind(_) => little,
+        }
     }
 
     /// Whether an answer of `size` bytes is sent, where `all` are held: it fits, or has at most 8 KiB.

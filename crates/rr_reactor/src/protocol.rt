@@ -1,9 +1,10 @@
 //! What is said over a connection.
 
 use crate::item::{Outcome, Work};
+use crate::limits::SMALL;
 use crate::socket::{Moved, Socket, moved_by};
 use crate::watch::Stage;
-use rr_connection::{Found, HttpConnection, LineConnection};
+use rr_connection::{Found, HttpConnection, LineConnection, PIECE};
 use std::alloc::AllocError;
 
 /// What is said over a connection.
@@ -54,6 +55,16 @@ impl Protocol {
         match self {
             Protocol::Http(http) => http.held(),
             Protocol::Lines(lines) => lines.held(),
+        }
+    }
+
+    /// How many bytes what it receives needs in all: as many as a body has, or a piece of lines may
+    /// have. Before a body that is unknown, and 8 KiB at a time are enough.
+    pub(crate) fn needs(&self) -> usize {
+        match self {
+            Protocol::Http(http) if http.is_within_body() => http.body_size().max(SMALL),
+            Protocol::Http(_) => SMALL,
+            Protocol::Lines(_) => PIECE,
         }
     }
 

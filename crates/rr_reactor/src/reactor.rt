@@ -1,6 +1,6 @@
 //! The thread that owns all sockets.
 
-use crate::acceptor::{Acceptor, Kind};
+use crate::acceptor::{Accepted, Acceptor, Kind};
 use crate::connections::Connections;
 use crate::item::Answer;
 use crate::limits::Limits;
@@ -66,6 +66,23 @@ fn protocol_of(alloc: Global, limits: &Limits, kind: Kind) -> Protocol {
     }
 }
 
+/// The next connection that waits at a listener. Where there is no file descriptor for it, another one
+/// is let go, once.
+fn accept_one(
+    acceptor: &mut Acceptor,
+    connections: &mut Connections<TcpStream>,
+    now: u64,
+) -> Option<TcpStream> {
+    let mut accepted = acceptor.accept();
+    if matches!(accepted, Accepted::NoDescriptor) && connections.let_one_go(now) {
+        accepted = acceptor.accept();
+    }
+    match accepted {
+        Accepted::Stream(stream) => Some(stream),
+        _ => None,
+    }
+}
+
 /// Takes in the connections that wait at a listener, while there is room.
 fn accept_all(
     alloc: Global,
@@ -80,7 +97,7 @@ fn accept_all(
         if !acceptor.is_ready || !connections.make_room(now) {
             return;
         }
-        let Some(mut stream) = acceptor.accept() else {
+        let Some(mut stream) = accept_one(acceptor, connections, now) else {
             return;
         };
         let _sent_at_once = stream.set_nodelay(true);
