@@ -7,12 +7,14 @@ PROGRAM is the built program, crates/rr_tool/out/rr_tool. Writes in the forms of
 that are common, fetches, keys, counts, the page's texts, each refusal, requests one after the other and at once on one
 connection, 16 senders of 1,000 lines at once, line connections that are silent, and requests that are no requests. After
 each of these the node has to answer. Then a node that is killed once it has answered and started again from its directory,
-and one whose journal can't grow for a while. Ends with status 1 where something else comes.
+one whose journal can't grow for a while, and one with fewer file descriptors than connections. Ends with status 1 where
+something else comes.
 """
 
 import concurrent.futures
 import gzip
 import json
+import os
 import resource
 import socket
 import subprocess
@@ -354,6 +356,25 @@ def failing_journal(program, folder, lines):
         node.kill()
 
 
+def few_descriptors(program, folder):
+    """A node that may have fewer file descriptors than there are silent connections still answers a good client."""
+    node = Node(program, folder)
+    silent = []
+    try:
+        own = len(os.listdir(f"/proc/{node.process.pid}/fd"))
+        resource.prlimit(node.process.pid, resource.RLIMIT_NOFILE, (own + 40, own + 40))
+        silent += [node.connect() for _ in range(200)]
+        time.sleep(1)
+        for number in range(20):
+            check(f"a write beside 200 silent connections for 40 descriptors, {number}",
+                  node.curl("/write", "--max-time", "5", body=b"a v=%di 0\n" % number)[0], 204)
+        node.is_well("few descriptors")
+    finally:
+        for stream in silent:
+            stream.close()
+        node.kill()
+
+
 def main():
     if len(sys.argv) != 2:
         fail("give the program")
@@ -372,6 +393,8 @@ def main():
     for lines in (5_000, 1):
         with tempfile.TemporaryDirectory() as folder:
             failing_journal(program, folder, lines)
+    with tempfile.TemporaryDirectory() as folder:
+        few_descriptors(program, folder)
 
 
 main()
