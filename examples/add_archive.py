@@ -85,7 +85,7 @@ class Node:
 
     def values(self, series, resolution, first, count):
         """The values of rows of a series, each of so many seconds, from a second on."""
-        end = first + (count - 1) * resolution
+        end = first + count * resolution
         query = f"cf=LAST&resolution={resolution}&start={first}&end={end}&key=m,n={series}+v"
         status, text = self.ask("GET", f"/fetch?{query}")
         return [row.rpartition(",")[2] for row in text.splitlines()] if status == 200 else [str(status)]
@@ -112,15 +112,28 @@ def moment_of(old, now):
     return "within" if len(new) == 1 or old & now else "after"
 
 
+def seconds_of_start(node, kept):
+    """How long a start with the archive takes from a copy of a directory."""
+    shutil.rmtree(node.data)
+    shutil.copytree(kept, node.data)
+    began = time.monotonic()
+    node.start(MINUTES + FIVE)
+    node.await_health()
+    took = time.monotonic() - began
+    node.kill()
+    return took
+
+
 def killed_starts(node, kills, draw, kept):
     """Kills the node while it starts with the archive, each time from a copy of its directory; how often
     at which moment."""
     seen = {"before": 0, "within": 0, "after": 0}
+    took = seconds_of_start(node, kept)
     for _ in range(kills):
         shutil.rmtree(node.data)
         shutil.copytree(kept, node.data)
         node.start(MINUTES + FIVE)
-        time.sleep(draw.uniform(0, 0.6))
+        time.sleep(draw.uniform(0.5 * took, 1.05 * took))
         node.kill()
         seen[moment_of(names_in(kept), names_in(node.data))] += 1
         node.start(MINUTES + FIVE)
