@@ -1,7 +1,7 @@
 #!/usr/bin/env python3
 """What a batch, a checkpoint and a start cost a node with a directory that holds many cells: `rr node`.
 
-usage: batches.py [PROGRAM] [--cells CELLS]
+usage: batches.py [PROGRAM] [--cells CELLS] [--check]
 
 The node takes CELLS samples (4,000,000 if left out), a new cell each, of 4,000 series, over HTTP. Then these are printed:
 
@@ -10,7 +10,8 @@ The node takes CELLS samples (4,000,000 if left out), a new cell each, of 4,000 
 - the memory at most;
 - how long a start took after the node was killed, up to its first answer, and how many bytes it read.
 
-TMPDIR names the folder that has the node's directory. Status 1: the node answers otherwise than expected.
+TMPDIR names the folder that has the node's directory. Status 1: the node answers otherwise than expected; with --check also
+where a request takes more than 20 ms, a write waits for more than 50 ms, or a start takes more than 5 s.
 """
 
 import argparse
@@ -23,6 +24,7 @@ import sys
 import tempfile
 import time
 
+from goals import Goals
 from node_lines import free_port, peak
 from store import START, TOP
 
@@ -143,23 +145,31 @@ def main():
     parser = argparse.ArgumentParser(description=__doc__.splitlines()[0])
     parser.add_argument("program", nargs="?", default=str(TOP / "crates/rr_tool/out/rr_tool"))
     parser.add_argument("--cells", type=int, default=4_000_000)
+    parser.add_argument("--check", action="store_true", help="end with status 1 where a figure misses its goal")
     words = parser.parse_args()
     minutes = words.cells // SERIES
+    goals = Goals()
     with tempfile.TemporaryDirectory() as room:
         node = Node(words.program, pathlib.Path(room), 100_000)
         try:
             seconds = sum(node.write(text) for text in bodies(SERIES, 0, minutes))
             print(f"{minutes * SERIES:,} samples in bodies of {BODY:,}: {minutes * SERIES / seconds:,.0f} a second")
-            print(f"a request with 1,000 new samples: {batch(node, minutes) * 1e3:.1f} ms of processor time")
+            spent = batch(node, minutes) * 1e3
+            print(f"a request with 1,000 new samples: {spent:.1f} ms of processor time")
+            goals.most("ms of processor time of a request", spent, 20)
             longest, took = checkpoint(node, minutes + 50)
             print(f"a line beside a checkpoint of {took:.1f} s waited {longest * 1e3:.0f} ms at most")
+            goals.most("ms that a line waited", longest * 1e3, 50)
             print(f"memory: {peak(node.process):,.0f} MB at most")
             node.kill()
             size = node.bytes()
-            print(f"a start: {node.start():.1f} s, from {size / 1e6:,.0f} MB")
+            took = node.start()
+            print(f"a start: {took:.1f} s, from {size / 1e6:,.0f} MB")
+            goals.most("s of a start", took, 5)
         finally:
             node.kill()
+    return goals.status() if words.check else 0
 
 
 if __name__ == "__main__":
-    main()
+    sys.exit(main())

@@ -1,7 +1,7 @@
 #!/usr/bin/env python3
 """What a node bears over HTTP: requests a second, by wrk, and how long a good client waits among bad ones.
 
-    bench/http_load.py PROGRAM [--seconds SECONDS] [--parts PART ..]
+    bench/http_load.py PROGRAM [--seconds SECONDS] [--parts PART ..] [--check]
 
 PROGRAM is the built program, crates/rr_tool/out/rr_tool; wrk is Debian's package of that name. Each figure is of SECONDS
 seconds, 5 if left out. PART is one of these, all of them if left out:
@@ -13,7 +13,9 @@ seconds, 5 if left out. PART is one of these, all of them if left out:
   a second, 1,000 connections that send nothing, 300 uploads of 8 MiB that stop before their end, and 1,000 line connections
   that stop within a line. Each of these is opened again a second after the node has ended it. Then the node's memory
 
-Prints a line a figure, and before them how busy the machine was. Run it on an idle machine.
+Prints a line a figure, and before them how busy the machine was. Run it on an idle machine. With --check it ends with
+status 1 where a figure misses its goal: 45,000 fetches and 40,000 times /health a second on 64 connections, 39,500 writes of
+a line; in the crowd 20 ms in 99 of 100 for what is short, none that isn't answered, and 300 MB.
 """
 
 import argparse
@@ -31,6 +33,7 @@ import sys
 import tempfile
 import time
 
+from goals import Goals
 from node_http import await_start, connected, free_ports, lines_of, post, work_of
 
 CONFIG = """\
@@ -85,12 +88,15 @@ CROWD = {
     "line connections within a line": (1_000, "lines", b"m v=1", b""),
 }
 
+# What a good client asks for that isn't short.
+LONG = "a write of 10,000 lines"
+
 # What a good client asks for: the method, the path, and the body.
 ASKED = {
     "/health": ("GET", "/health", None),
     "a fetch of 100 rows": ("GET", FETCH, None),
     "a write of a line": ("POST", "/write", b"good v=1i 0\n"),
-    "a write of 10,000 lines": ("POST", "/write", b"".join(lines_of(1, request) for request in range(10))),
+    LONG: ("POST", "/write", b"".join(lines_of(1, request) for request in range(10))),
 }
 
 
@@ -144,15 +150,17 @@ def wrk(url, connections, seconds, *words):
     return rate, "; ".join([", ".join(waits), *faults])
 
 
-def reads(program, seconds):
+def reads(program, seconds, goals):
     with node(program) as it:
-        for what, path in (("a fetch of 100 rows", FETCH), ("/health", "/health")):
+        for what, path, goal in (("a fetch of 100 rows", FETCH, 45_000), ("/health", "/health", 40_000)):
             for connections in (64, 1_000):
                 rate, rest = wrk(f"http://127.0.0.1:{it.http}{path}", connections, seconds)
                 print(f"{what}, {connections} connections: {rate:,.0f} a second, {rest}", flush=True)
+                if connections == 64:
+                    goals.least(f"{what} a second", rate, goal)
 
 
-def writes(program, seconds):
+def writes(program, seconds, goals):
     for connections, lines in ((16, 1_000), (64, 1)):
         with node(program) as it, tempfile.NamedTemporaryFile("w", suffix=".lua") as script:
             script.write(SCRIPT.format(lines=lines))
@@ -162,6 +170,8 @@ def writes(program, seconds):
             each = (work_of(it.process) - before) / (rate * lines * seconds) * 1e6
             what = f"{connections} connections, {lines:,} lines a request: {rate * lines:,.0f} lines a second"
             print(f"{what}, {each:.2f} us of processor time each, {rest}; {it.memory()[1]:,.0f} MB at most", flush=True)
+            if lines == 1:
+                goals.least("writes of a line a second", rate, 39_500)
 
 
 async def hold_once(port, begin, more, opened):
@@ -249,25 +259,29 @@ def waits_of(port, seconds, asked, stays):
     return sorted(waits), faults
 
 
-def report_waits(it, seconds, among):
+def report_waits(it, seconds, among, goals):
     for what, asked in ASKED.items():
         for how, stays in (("on one connection", True), ("on a connection each", False)):
             waits, faults = waits_of(it.http, seconds, asked, stays)
             p50, p99 = (waits[len(waits) * part // 100] if waits else float("nan") for part in (50, 99))
             rest = f"50 % within {p50:.2f} ms, 99 % within {p99:.2f} ms, all within {max(waits, default=0):.1f} ms"
             print(f"{among}, {what} {how}: {rest}, of {len(waits):,}; {faults} not answered", flush=True)
+            goals.most(f"{among}, {what} {how}: not answered", faults, 0)
+            if what != LONG:
+                goals.most(f"{among}, {what} {how}: ms in 99 of 100", p99, 20)
 
 
-def crowd_part(program, seconds):
+def crowd_part(program, seconds, goals):
     with node(program) as it:
-        report_waits(it, seconds, "alone")
+        report_waits(it, seconds, "alone", goals)
         with crowd(it) as opened:
-            report_waits(it, seconds, "in the crowd")
+            report_waits(it, seconds, "in the crowd", goals)
             time.sleep(2)
             numbers, (has, most) = it.numbers(), it.memory()
             print(f"opened by the crowd: {opened.value:,}; held by the node: {numbers['rr_connections']}")
         print(f"memory in the crowd: {has:,.0f} MB, {most:,.0f} MB at most; for connections "
               f"{int(numbers['rr_connection_bytes']) / 1e6:,.0f} MB by its own count", flush=True)
+        goals.most("MB in the crowd", most, 300)
 
 
 PARTS = {"reads": reads, "writes": writes, "crowd": crowd_part}
@@ -278,6 +292,7 @@ def main():
     words.add_argument("program")
     words.add_argument("--seconds", type=int, default=5)
     words.add_argument("--parts", nargs="+", choices=PARTS, default=list(PARTS))
+    words.add_argument("--check", action="store_true", help="end with status 1 where a figure misses its goal")
     words = words.parse_args()
     if not shutil.which("wrk"):
         sys.exit("http_load.py: there is no wrk: install it")
@@ -286,9 +301,11 @@ def main():
         sys.exit(f"http_load.py: {DESCRIPTORS} file descriptors are needed, and {most} may be had")
     resource.setrlimit(resource.RLIMIT_NOFILE, (DESCRIPTORS, most))
     print(f"{os.cpu_count()} processors; their load before: {', '.join(f'{load:.1f}' for load in os.getloadavg())}")
+    goals = Goals()
     for part in words.parts:
-        PARTS[part](words.program, words.seconds)
+        PARTS[part](words.program, words.seconds, goals)
+    return goals.status() if words.check else 0
 
 
 if __name__ == "__main__":
-    main()
+    sys.exit(main())

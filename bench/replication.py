@@ -1,7 +1,7 @@
 #!/usr/bin/env python3
 """What it costs a node of `rr node` to follow another one.
 
-usage: replication.py [PROGRAM] [--cells CELLS] [--seconds SECONDS]
+usage: replication.py [PROGRAM] [--cells CELLS] [--seconds SECONDS] [--check]
 
 A node takes CELLS samples (4,000,000 if left out), a new cell each, of 4,000 series. Then these are printed:
 
@@ -11,7 +11,9 @@ A node takes CELLS samples (4,000,000 if left out), a new cell each, of 4,000 se
 - for a body of 1,000 new samples, one of each of 1,000 series, the median of 20: how long it took from the first node's
   204 until the other one answered with the last of them, and the bytes between them.
 
-TMPDIR names the folder that has the nodes' directories. Status 1: a node answers otherwise than expected.
+TMPDIR names the folder that has the nodes' directories. Status 1: a node answers otherwise than expected; with --check also
+where nothing new takes more than 0.05 s of a node's processor time or 10 KB a minute, or 1,000 samples more than 1.5 s or
+100 KB.
 """
 
 import argparse
@@ -24,6 +26,7 @@ import threading
 import time
 
 from batches import SERIES, Node, bodies, processor_seconds
+from goals import Goals
 from node_lines import peak
 from store import START, TOP
 
@@ -113,8 +116,10 @@ def main():
     parser.add_argument("program", nargs="?", default=str(TOP / "crates/rr_tool/out/rr_tool"))
     parser.add_argument("--cells", type=int, default=4_000_000)
     parser.add_argument("--seconds", type=int, default=60)
+    parser.add_argument("--check", action="store_true", help="end with status 1 where a figure misses its goal")
     words = parser.parse_args()
     minutes = words.cells // SERIES
+    goals = Goals()
     nodes = []
     with tempfile.TemporaryDirectory() as room:
         try:
@@ -138,17 +143,23 @@ def main():
                 sys.exit(f"{lag(second)} bytes of the journal aren't read")
             before = [processor_seconds(it.process) for it in nodes], between.bytes
             time.sleep(words.seconds)
-            spent = [processor_seconds(it.process) - was for it, was in zip(nodes, before[0])]
             per_minute = 60 / words.seconds
-            print(f"nothing new: {spent[0] * per_minute:.3f} and {spent[1] * per_minute:.3f} s of processor time and "
-                  f"{(between.bytes - before[1]) * per_minute:,.0f} bytes a minute")
+            spent = [(processor_seconds(it.process) - was) * per_minute for it, was in zip(nodes, before[0])]
+            size = (between.bytes - before[1]) * per_minute
+            print(f"nothing new: {spent[0]:.3f} and {spent[1]:.3f} s of processor time and {size:,.0f} bytes a minute")
+            goals.most("s of processor time with nothing new", max(spent), 0.05)
+            goals.most("bytes with nothing new", size, 10_000)
             found = [new_samples(first, second, between, minutes + i) for i in range(20)]
-            print(f"1,000 new samples: answered by the other node after {statistics.median(it[0] for it in found):.2f} s, "
-                  f"{max(it[0] for it in found):.2f} s at most, {statistics.median(it[1] for it in found):,.0f} bytes")
+            took, size = (statistics.median(it[place] for it in found) for place in (0, 1))
+            print(f"1,000 new samples: answered by the other node after {took:.2f} s, "
+                  f"{max(it[0] for it in found):.2f} s at most, {size:,.0f} bytes")
+            goals.most("s until new samples are answered", took, 1.5)
+            goals.most("bytes of new samples", size, 100_000)
         finally:
             for node in nodes:
                 node.kill()
+    return goals.status() if words.check else 0
 
 
 if __name__ == "__main__":
-    main()
+    sys.exit(main())
