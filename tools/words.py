@@ -24,7 +24,7 @@ WORDS = {
     "said": ("parsed, reported", ()),
     "seat": (
         "handle of a reader; a seat has a reader, its visits and its gate",
-        ("crates/rr_node/", "crates/rr_server/", "crates/rr_cases/", "crates/rr_tests/"),
+        ("crates/rr_node/", "crates/rr_server/", "crates/rr_cases/", "crates/rr_tests/", "crates/rr_server_tests/"),
     ),
     "slip": ("ticket", ()),
     "turn": ("interval, sampling, step", ("crates/rr_web/src/script.rt",)),

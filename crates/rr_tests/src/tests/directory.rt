@@ -1,28 +1,15 @@
-//! A replica from the files of a directory, and what the program says of them.
+//! A replica from the files of a directory.
 //!
 //! The bytes are those that a script in another language makes of the format.
-use super::journal::{HEADER, RECORDS, schema};
-use super::process::{Given, Process};
+use super::journal::schema;
 use rr_archive::PlainArchive;
 use rr_base::Origin;
 use rr_directory::{
     FileFault, FileName, MemoryDirectory, MemoryFile, Refusal, last_origin, recover, start_of,
 };
-use rr_process::Ending;
+use rr_fakes::journals::{HEADER, HEADER_101, RECORDS, file};
 use rr_replica::Replica;
-use rr_server::run;
 use std::alloc::Global;
-use std::fs;
-use std::sync::Wait;
-use std::test::Fail;
-
-/// The header of a file that begins behind the first two records.
-const HEADER_101: [u8; 62] = [
-    0x52, 0x52, 0x4a, 0x4e, 0x01, 0x00, 0x00, 0x0e, 0x00, 0x00, 0x00, 0x3c, 0x01, 0x01, 0x00, 0x00,
-    0x00, 0x03, 0x00, 0x00, 0x00, 0x01, 0x00, 0x01, 0x02, 0x03, 0x04, 0x05, 0x06, 0x07, 0x08, 0x09,
-    0x0a, 0x0b, 0x0c, 0x0d, 0x0e, 0x0f, 0x00, 0x00, 0x00, 0x00, 0x00, 0x00, 0x00, 0x65, 0x68, 0x45,
-    0x15, 0x41, 0x67, 0x1f, 0xe3, 0x81, 0xe6, 0xc4, 0x07, 0x3d, 0x68, 0x28, 0x88, 0x7e,
-];
 
 /// The header of a file that begins behind all four, and of the checkpoint of them.
 const HEADER_167: [u8; 62] = [
@@ -47,13 +34,6 @@ const CHECKPOINT: [u8; 107] = [
 const ORIGIN_1002: [u8; 15] = [
     0x00, 0x00, 0x00, 0x02, 0x82, 0x03, 0xea, 0x9c, 0x47, 0x37, 0x86, 0xe5, 0x51, 0x1f, 0x69,
 ];
-
-/// A file's bytes: a header, and some records.
-fn file(alloc: Global, header: &[u8], records: &[u8]) -> Option<Vec<u8>> {
-    let mut bytes = Vec::from_slice(alloc, header).ok()?;
-    bytes.extend_from_slice(records).ok()?;
-    Some(bytes)
-}
 
 /// What is told of files: how many cells are recovered, the last origin, where the journal ends and
 /// how many bytes are torn; or which file is refused, and why.
@@ -170,68 +150,4 @@ fn the_last_file_alone_may_be_torn(rt: HostRuntime) {
         told_of_cut(rt.alloc(), 86, 0),
         Some(Err(Refusal { file, fault }))
     );
-}
-
-/// The two files of the journal, and what is said of them.
-const CHECKED: &str = "journal-00000000000000000000.rrj records 2 cells 6 end
-journal-00000000000000000101.rrj records 1 cells 0 torn 20
-joined
-";
-
-/// The cells of the first, as a decoder in another language reads them.
-const CELLS: &str = "\
-cpu value,0,0,1,10,1,100,100,100,0,100,00000000000000000000000000000001
-cpu value,0,0,7,500,1,-5,-5,-5,1,-5,00000000000000000000000000000001
-cpu value,0,1,1,11,1,101,101,101,60000000000,101,00000000000000000000000000000001
-cpu value,0,1,7,503,1,-5,-5,-5,60000000001,-5,00000000000000000000000000000001
-cpu value,0,2,1,12,1,102,102,102,120000000000,102,00000000000000000000000000000001
-cpu value,0,2,7,506,1,-5,-5,-5,120000000001,-5,00000000000000000000000000000001
-";
-
-/// Without the first file.
-const MISSING: &str = "journal-00000000000000000101.rrj records 1 cells 0 torn 20
-refused journal-00000000000000000101.rrj FileMissing
-";
-
-/// Words for a process.
-fn given(words: &[u8]) -> Given<'_> {
-    Given {
-        words,
-        input: b"",
-        ports: &[],
-        moment: None,
-    }
-}
-
-/// Whether a process printed this, and ended with this status.
-fn is_told<R: Wait + Alloc<A = Global>>(
-    process: Process<'_, R>,
-    ending: &Ending,
-    printed: &str,
-    status: u8,
-) -> bool {
-    let (text, _) = process.into_texts();
-    text.as_slice() == printed.as_bytes() && ending.status() == status
-}
-
-#[test]
-fn a_directory_is_read_for_an_operator(rt: HostRuntime) -> Result<(), Fail> {
-    let alloc = rt.alloc();
-    let first = file(alloc, &HEADER, &RECORDS[..101]).unwrap_or(Vec::new(alloc));
-    let second = file(alloc, &HEADER_101, &RECORDS[101..166]).unwrap_or(Vec::new(alloc));
-    fs::create_dir(&rt, "data")?;
-    fs::write(&rt, "data/lock", b"")?;
-    fs::write(&rt, "data/journal-00000000000000000000.rrj", &first)?;
-    fs::write(&rt, "data/journal-00000000000000000101.rrj", &second)?;
-    let process = Process::new(&rt, given(b"rr journal check data"));
-    let ending = run(&process);
-    assert!(rt; is_told(process, &ending, CHECKED, 0));
-    let process = Process::new(&rt, given(b"rr journal cells data"));
-    let ending = run(&process);
-    assert!(rt; is_told(process, &ending, CELLS, 0));
-    fs::remove_file(&rt, "data/journal-00000000000000000000.rrj")?;
-    let process = Process::new(&rt, given(b"rr journal check data"));
-    let ending = run(&process);
-    assert!(rt; is_told(process, &ending, MISSING, 1));
-    Ok(())
 }

@@ -1,8 +1,8 @@
 //! Connections of readers.
 
-use super::rounds::SENT;
 use rr_desk::{Reader, open};
 use rr_fakes::replicas::minutes;
+use rr_fakes::sessions::SENT;
 use rr_fakes::visits::Prepared;
 use rr_node::{OpenGate, Seat, serve_seat};
 use rr_packed::PackedArchive;

@@ -1,6 +1,7 @@
 //! A peer, followed by what it answers.
-use super::journal::{HEADER, RECORDS, schema, start};
+use super::journal::{schema, start};
 use rr_cells::Cell;
+use rr_fakes::journals::{HEADER, RECORDS};
 use rr_replication::{Following, Next, PartFault, PeerAnswer, PeerConnection, PeerFault};
 use std::alloc::Global;
 

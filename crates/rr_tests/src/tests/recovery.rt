@@ -1,7 +1,8 @@
 //! A replica from the bytes of a journal.
-use super::journal::{RECORDS, schema, start};
+use super::journal::{schema, start};
 use rr_archive::PlainArchive;
 use rr_base::{Counted, Origin};
+use rr_fakes::journals::RECORDS;
 use rr_journal::Stop;
 use rr_recovery::{Found, RecoveryFault, last_origin, replay};
 use rr_replica::Replica;

@@ -1,6 +1,7 @@
 //! Parts of a journal, given and read.
-use super::journal::{RECORDS, schema, start};
+use super::journal::{schema, start};
 use rr_cells::Cell;
+use rr_fakes::journals::RECORDS;
 use rr_journal::Cursor;
 use rr_replication::{MAX_PART, Part, PartFault, part_from, read_part};
 use std::alloc::Global;

@@ -4,13 +4,14 @@ use rr_base::{Counted, Origin};
 use rr_desk::{Keeper, open};
 use rr_fakes::clock::Moments;
 use rr_fakes::dial::{PreparedDial, PreparedPeer};
+use rr_fakes::halt::NoHalt;
 use rr_fakes::replicas::minutes;
+use rr_fakes::sessions::{REPLY, SENT};
 use rr_fakes::shelf::{PreparedOpening, PreparedShelf, ShelfNote};
 use rr_fakes::visits::Prepared;
 use rr_node::{Config, NodeFault, Seats, serve_node};
 use rr_packed::PackedArchive;
 use rr_replica::Replica;
-use rr_server::HaltFlag;
 use rr_snapshot::load;
 use std::alloc::Global;
 use std::sync::Wait;
@@ -21,21 +22,6 @@ use std::thread::Threads;
 pub(crate) const CONFIG: &[u8] =
     b"step = 60\nlines = \"l\"\nfetch = [\"f\"]\npeers = [\"no\", \"yes\"]\nrounds = 1\n\
     [[archive]]\nsteps = 1\nrows = 3\nxff_num = 0\nxff_den = 1\n";
-
-/// What a side sends that holds nothing and pulls.
-pub(crate) const SENT: [u8; 24] = [
-    0, 0, 0, 0x0f, 1, 0, 0, 0, 0x3c, 1, 1, 0, 0, 0, 3, 0, 0, 0, 1, 0, 0, 0, 1, 3,
-];
-
-/// The answer of a peer that holds one sample, 7 at a minute after the epoch, of the key `m v` and
-/// origin 1.
-pub(crate) const REPLY: [u8; 119] = [
-    0, 0, 0, 0x6e, 4, 0x52, 0x52, 0x50, 0x47, 1, 0, 0, 0, 0x3c, 1, 1, 0, 0, 0, 3, 0, 0, 0, 1, 0, 1,
-    0, 3, 0x6d, 0x20, 0x76, 0, 0, 0, 0, 0, 0, 0, 0, 1, 0, 1, 0, 0, 0, 0, 0, 0, 0, 1, 0, 0, 0, 0, 0,
-    0, 0, 1, 0, 0, 0, 0, 0, 0, 0, 0, 0, 0, 0, 0, 0, 0, 0, 7, 0, 0, 0, 0, 0, 0, 0, 7, 0, 0, 0, 0, 0,
-    0, 0, 7, 0, 0, 0, 0x0d, 0xf8, 0x47, 0x58, 0, 0, 0, 0, 0, 0, 0, 0, 7, 0, 0, 0, 0, 0, 0, 0, 1, 0,
-    0, 0, 1, 5,
-];
 
 /// No seats; memory sufficed for them or not.
 #[derive(Drop)]
@@ -119,7 +105,7 @@ fn kept<R: Wait + Threads + Sync>(
 ) -> Option<Done> {
     let inputs = [Some(b"".as_slice())];
     let mut lines = Prepared::new(alloc, &inputs).ok()?;
-    let mut halt = HaltFlag::new(alloc).ok()?;
+    let mut halt = NoHalt;
     let peers = [
         PreparedPeer {
             address: "no",

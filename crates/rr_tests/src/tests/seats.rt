@@ -5,12 +5,12 @@ use super::gates::{Meets, Signal};
 use rr_desk::{Keeper, Reader, open};
 use rr_fakes::clock::Moments;
 use rr_fakes::dial::PreparedDial;
+use rr_fakes::halt::NoHalt;
 use rr_fakes::replicas::minutes;
 use rr_fakes::shelf::PreparedShelf;
 use rr_fakes::visits::Prepared;
 use rr_node::{Config, Seat, Seats, serve_node, serve_seat};
 use rr_packed::PackedArchive;
-use rr_server::HaltFlag;
 use std::alloc::Global;
 use std::sync::Wait;
 use std::sync::atomic::{AtomicU64, Ordering};
@@ -117,7 +117,7 @@ fn serve_both<R: Threads + Wait + Sync>(
     let mut lines = Prepared::new(alloc, &[]).ok()?;
     let mut dial = PreparedDial::new(alloc, &[], 0).ok()?;
     let mut shelf = PreparedShelf::new(alloc, &[], 0).ok()?;
-    let mut halt = HaltFlag::new(alloc).ok()?;
+    let mut halt = NoHalt;
     let mut clock = Moments::new(Vec::new(alloc));
     serve_node(
         alloc, keeper, &mut lines, &mut dial, &mut shelf, both, &mut halt, &mut clock, &config, rt,

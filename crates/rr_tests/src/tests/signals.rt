@@ -1,11 +1,11 @@
 //! Signals, which end no save, no load, no pull and no connection.
 
-use super::rounds::{REPLY, SENT};
 use rr_base::{Counted, Origin};
 use rr_desk::{Keeper, Reader, open};
 use rr_fakes::clock::Moments;
 use rr_fakes::failing::{FailingFirst, failing_first};
 use rr_fakes::replicas::{minutes, one_sample};
+use rr_fakes::sessions::{REPLY, SENT};
 use rr_gossip::{give, pull};
 use rr_line::Precision;
 use rr_node::{NodeFault, OpenGate, Report, serve_lines, serve_reader};

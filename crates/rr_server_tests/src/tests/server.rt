@@ -3,7 +3,7 @@
 
 use super::process::{Given, Process};
 use super::program::{are_written, is_end, remove, snapshot};
-use super::rounds::{REPLY, SENT};
+use rr_fakes::sessions::{REPLY, SENT};
 use rr_server::run;
 use std::alloc::Global;
 use std::io::{Read, Write};
