@@ -1,4 +1,4 @@
-//! What items are answered, once it is known whether the batch is saved.
+//! The answers to items, once it is known whether the batch is saved.
 
 ghost use Rattle.std.specs.Prelude.{◌≡◌, IfOk, map};
 ghost use Rattle.rr_batch.specs.Answers.{answer_to, answer_view, body_outcome, lines_outcome, outcome_of};
@@ -26,7 +26,7 @@ fn body_outcome(
     Ok(Outcome::Reply(response_of(alloc, reply, product)?))
 }
 
-/// The answer to a piece: the report of a connection only if all its lines are saved, and else the
+/// The answer to a piece: the report of a connection only if all its lines are saved; otherwise the
 /// connection closes without one.
 fn lines_outcome(
     refusals: Vec<u8>,

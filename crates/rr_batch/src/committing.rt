@@ -23,18 +23,18 @@ use std::sync::Wait;
 pub struct Answers {
     /// An answer for each item, in order.
     pub answers: Vec<Answer>,
-    /// Whether all that the keeper holds is in the journal, and synced. Where it isn't, no answer
-    /// acknowledges a line, and the changes stay to be committed with the next batch.
+    /// Whether all that the keeper holds is in the journal and synced. If not, no answer
+    /// acknowledges a line, and the changes remain to be committed with the next batch.
     pub is_saved: bool,
 }
 
-/// Publishes what a batch put, commits all changes of the keeper to its journal, and gives the
-/// answers to the items of the batch: those that acknowledge lines only if the changes are synced.
+/// Publishes what a batch put, commits all changes of the keeper to its journal, and returns the
+/// answers to the items of the batch, which acknowledge lines only if the changes are synced.
 ///
-/// `cursor` is the end of the journal, and moves with it. All that was written before is synced.
-/// Refused as `NotSynced`, after which the journal is to be opened and read again, and as `Memory`:
-/// then nothing is acknowledged, and the node can't go on. The cost is that of [`commit_changes`]
-/// and of the answers.
+/// `cursor` is the end of the journal, and moves with it. All that was written before must be
+/// synced. Refused as `NotSynced`, after which the journal must be opened and read again, and as
+/// `Memory`: then nothing is acknowledged, and the node can't go on. The cost is that of
+/// [`commit_changes`] plus that of the answers.
 pub fn commit_batch<A: Cells, J: Journal, T: Wait>(
     alloc: Global,
     batch: Vec<Waiting>,

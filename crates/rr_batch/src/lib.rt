@@ -6,14 +6,14 @@
 //! Pendings ── commit_batch ──> published, and committed to the journal ──> an Answer for each item
 //! ```
 //!
-//! A batch is what waits when the keeper looks: bodies of requests, and pieces of lines of any number
-//! of connections. [`Writer`] takes their lines; what is to be answered waits as a [`Pending`], which
-//! [`commit_batch`] turns into an answer once it is known whether the batch is in the journal, and
-//! synced. So one sync serves all that waited, and nothing is acknowledged that a crash could lose.
-//! Lines that are refused are counted by the names of their faults: [`RefusalCounts`].
+//! A batch is what waits when the keeper looks: bodies of requests, and pieces of lines of any
+//! number of connections. [`Writer`] takes their lines; what is to be answered waits as a
+//! [`Pending`], which [`commit_batch`] turns into an answer once it is known whether the batch is
+//! in the journal and synced. So one sync serves all that waited, and nothing that a crash could
+//! lose is acknowledged. Refused lines are counted by the names of their faults: [`RefusalCounts`].
 //!
-//! The cells that a peer brings are joined by [`join_cells`] and committed with the next batch, and how
-//! far its journal was read is recorded behind them by [`commit_cursor`].
+//! The cells that a peer brings are joined by [`join_cells`] and committed with the next batch, and
+//! how far its journal was read is recorded after them by [`commit_cursor`].
 #![tactic(auto)]
 
 mod answering;

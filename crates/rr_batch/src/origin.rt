@@ -1,4 +1,4 @@
-//! The origin of a start, recorded.
+//! Recording the origin of a start.
 
 ghost use Rattle.std.specs.Prelude.{◌≡◌, OnOk};
 ghost use Rattle.rr_journal.specs.Keeping.{Grows};
@@ -9,7 +9,7 @@ use rr_journal::{Cursor, Journal, JournalFault, Record, commit, encode};
 use rr_schema::Origin;
 use std::alloc::{AllocError, Global};
 
-/// The one fault that so short a record can meet.
+/// The only fault that so short a record can meet.
 pub(crate) fn out_of_memory(fault: JournalFault) -> AllocError
     requires { fault ≡ JournalFault.Memory }
 {
@@ -17,11 +17,11 @@ pub(crate) fn out_of_memory(fault: JournalFault) -> AllocError
     AllocError
 }
 
-/// Commits a record of the origin under which a node's samples are from here on: before the first of
-/// them is put, so that no later start takes the same origin, whatever a crash leaves.
+/// Commits a record of the origin of a node's samples from here on, before the first of them is
+/// put, so that no later start takes the same origin, whatever a crash leaves.
 ///
-/// All that was written before is synced. Refused as `NotWritten`, which leaves the journal as it was,
-/// as `NotSynced`, after which it is to be opened and read again, and as `Memory`.
+/// All that was written before must be synced. Refused as `NotWritten`, which leaves the journal as
+/// it was; as `NotSynced`, after which it must be opened and read again; and as `Memory`.
 pub fn commit_origin<J: Journal>(
     alloc: Global,
     origin: Origin,

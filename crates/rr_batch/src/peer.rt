@@ -1,4 +1,4 @@
-//! What a peer brings: cells, joined, and how far its journal was read, recorded.
+//! What a peer brings: cells, to be joined, and how far its journal was read, to be recorded.
 
 ghost use Rattle.std.specs.Prelude.{◌≡◌, OnOk, fold};
 ghost use Rattle.rr_journal.specs.Keeping.{Grows};
@@ -22,11 +22,11 @@ fn join_if<A: Cells>(cell: &Cell, keeper: &mut Keeper<A>) -> Result<(), AllocErr
     Ok(())
 }
 
-/// Joins the cells that a peer brought, in order: each is pending then, and is published and committed
-/// with the next batch. One that is none of the keeper's schema is passed over.
+/// Joins the cells that a peer brought, in order: each is then pending, and is published and
+/// committed with the next batch. One that isn't of the keeper's schema is skipped.
 ///
-/// If memory runs out, some of them are pending, from the first on. The cost is that of
-/// [`Keeper::join_cell`] for each.
+/// If memory runs out, a prefix of them is pending. The cost is that of [`Keeper::join_cell`] for
+/// each.
 pub fn join_cells<A: Cells>(cells: &[Cell], keeper: &mut Keeper<A>) -> Result<(), AllocError>
     ensures { OnOk result (keeper.new ≡ joined_to keeper.old cells.now) }
 {
@@ -36,11 +36,11 @@ pub fn join_cells<A: Cells>(cells: &[Cell], keeper: &mut Keeper<A>) -> Result<()
     Ok(())
 }
 
-/// Commits a record of how far the journal of a peer was read: behind the cells that it had before, so
-/// that a later start goes on there, and has these cells, whatever a crash leaves.
+/// Commits a record of how far the journal of a peer was read, after the cells that it had before
+/// that, so that a later start continues there, and has these cells, whatever a crash leaves.
 ///
-/// All that was written before is synced. Refused as `NotWritten`, which leaves the journal as it was,
-/// as `NotSynced`, after which it is to be opened and read again, and as `Memory`.
+/// All that was written before must be synced. Refused as `NotWritten`, which leaves the journal as
+/// it was; as `NotSynced`, after which it must be opened and read again; and as `Memory`.
 pub fn commit_cursor<J: Journal>(
     alloc: Global,
     read: &Cursor,
@@ -52,7 +52,7 @@ pub fn commit_cursor<J: Journal>(
         (J.synced journal.new) (J.text journal.new) cursor.old cursor.new) }
     ensures grows { Grows (J.synced journal.old) (J.synced journal.new) }
 {
-    // The proof needs how many bytes these have, which their types ensure.
+    // The proof needs to know how many bytes these have, which their types ensure.
     let (_id, _digest) = (read.id, read.digest);
     let raw = match encode(alloc, &Record::Cursor(*read)) {
         Ok(raw) => raw,

@@ -9,23 +9,23 @@ use rr_web::RefusedLines;
 use std::alloc::{AllocError, Global};
 use std::collections::BTreeMap;
 
-/// How many names are counted, each for itself; the lines of a further one are counted as `other`.
+/// How many names are counted separately; the lines of any further one are counted as `other`.
 pub const MAX_NAMES: usize = 64;
 
-/// Stands before the name of a fault.
+/// Precedes the name of a fault.
 const COLON: u8 = b':';
 
 const _: () = prove!(MAX_NAMES == 64);
 
 const _: () = prove!(COLON == 58);
 
-/// How many lines were refused, by the names of their faults. A count stops at its greatest value.
+/// How many lines were refused, by the names of their faults. Counts saturate.
 #[derive(Drop)]
 pub struct RefusalCounts {
     alloc: Global,
     /// The lines of each name.
     named: BTreeMap<Vec<u8>, u64>,
-    /// Those whose name isn't known, or not counted for itself.
+    /// Those whose name isn't known, or isn't counted separately.
     other: u64,
 }
 
@@ -71,7 +71,7 @@ impl RefusalCounts {
         self.other = self.other.saturating_add(lines);
     }
 
-    /// Counts a line of a name. Memory is taken only for a name that is new.
+    /// Counts a line of a name. Only a new name takes memory.
     fn add_name(&mut self, name: &[u8]) -> Result<(), AllocError>
         ensures { all_lines self.old + 1 < 2 ^ 64
             → OnOk result (Counts self.old self.new 1 (λ own. one_if own (Some name.now))) }
@@ -106,7 +106,7 @@ impl RefusalCounts {
         }
     }
 
-    /// Counts the lines of a text. The answer is how many there are.
+    /// Counts the lines of a text, and returns how many there are.
     fn add_lines(&mut self, text: &[u8]) -> Result<u64, AllocError>
         ensures lines { IfOk result (λ lines. lines ≡ length (whole_lines text.now)) }
         ensures counts { all_lines self.old + length (whole_lines text.now) < 2 ^ 64
@@ -124,11 +124,11 @@ impl RefusalCounts {
     }
 
     /// Counts refused lines, given their number and the text that names some of them: each line
-    /// `line N: NAME` that ends in a line feed counts under its name, and the refused lines that are
-    /// left count as `other`. A text with more lines than were refused counts with all its lines.
+    /// `line N: NAME` that ends in a line feed counts under its name, and the remaining refused
+    /// lines count as `other`. If a text has more lines than were refused, all its lines count.
     ///
-    /// If memory runs out, some of the lines are counted. The cost is linear in the text; finding the
-    /// count of a name is logarithmic in the names, of which there are at most [`MAX_NAMES`].
+    /// If memory runs out, some of the lines are counted. The cost is linear in the text; finding
+    /// the count of a name is logarithmic in the at most [`MAX_NAMES`] names.
     pub fn add(&mut self, text: &[u8], refused: u64) -> Result<(), AllocError>
         ensures { OnOk result (CountsRefused self.old self.new text.now refused) }
     {
@@ -137,8 +137,8 @@ impl RefusalCounts {
         Ok(())
     }
 
-    /// The lines of each name, in the order of the names by their bytes, and at last those of
-    /// `other`. The cost is linear in the names.
+    /// The lines of each name, in byte order of the names, and last those of `other`. The cost is
+    /// linear in the names.
     pub fn to_lines(&self) -> Result<Vec<RefusedLines>, AllocError>
         ensures { IfOk result (λ lines. map count_view lines.items ≡ counts_of self.now) }
     {

@@ -1,4 +1,4 @@
-//! Who takes the writes of a node's connections.
+//! Taking the writes of a node's connections.
 
 ghost use Rattle.std.specs.Prelude.{◌≡◌, ◌-◌, IfOk, None, OnOk, Some};
 ghost use Rattle.rr_connection.specs.Requests.{request_view};
@@ -19,19 +19,19 @@ use std::alloc::{AllocError, Global};
 use std::collections::BTreeMap;
 use std::sync::Wait;
 
-/// How many bytes of the refusals of one body are kept: the first ones.
+/// How many bytes of one body's refusals are kept: the first ones.
 pub const MAX_REFUSALS: usize = 65_536;
 
 const _: () = prove!(MAX_REFUSALS == 65_536);
 
-/// Who takes the writes of a node's connections: bodies, whose lines stand alone, and pieces of
-/// lines, which go on where the piece of the same connection before them ended.
+/// Takes the writes of a node's connections: bodies, whose lines stand alone, and pieces of lines,
+/// which continue where the previous piece of the same connection ended.
 #[derive(Drop)]
 pub struct Writer {
     alloc: Global,
     precision: Precision,
     lead: Option<u64>,
-    /// The lines of each connection of lines, by its key, from its first piece on.
+    /// The lines of each connection for lines, by its key, from its first piece on.
     streams: BTreeMap<usize, LineStream>,
     /// What became of the lines of all items.
     tally: Report,
@@ -39,7 +39,7 @@ pub struct Writer {
     refused: RefusalCounts,
 }
 
-/// What became of lines, and of others that came to more than these.
+/// A tally plus the growth of a report from `before` to `after`.
 fn sum(tally: Report, before: Report, after: Report) -> Report {
     Report {
         points: more(tally.points, before.points, after.points),
@@ -48,12 +48,12 @@ fn sum(tally: Report, before: Report, after: Report) -> Report {
     }
 }
 
-/// A count, and what another one has grown by. It stops at its greatest value.
+/// A count plus the growth of another one. It saturates.
 fn more(count: u64, before: u64, after: u64) -> u64 {
     count.saturating_add(after.saturating_sub(before))
 }
 
-/// Nothing became of no lines.
+/// The report of no lines.
 const NONE: Report = Report {
     points: 0,
     samples: 0,
@@ -65,8 +65,8 @@ impl Writer {
     ghost use Rattle.rr_batch.specs.Refusals.{CountsRefused};
     ghost use Rattle.rr_batch.specs.Taking.{CountsPending, OfRequest, TakesRequest, rules_in};
 
-    /// A writer to which no item came. The times of lines have this precision, and may be ahead of
-    /// the clock by `lead` nanoseconds, or by any where that is missing.
+    /// A writer that has taken no item. The times of lines have this precision, and may be ahead of
+    /// the clock by `lead` nanoseconds, or by any number if that is absent.
     pub fn new(alloc: Global, precision: Precision, lead: Option<u64>) -> Writer {
         Writer {
             alloc,
@@ -83,17 +83,17 @@ impl Writer {
         self.tally
     }
 
-    /// The lines of all items that were refused since the start, by the names of their faults. Of a
-    /// body only the first [`MAX_REFUSALS`] bytes of refusals are kept: its other refused lines count
-    /// as `other`.
+    /// The refused lines of all items since the start, by the names of their faults. Only the first
+    /// [`MAX_REFUSALS`] bytes of a body's refusals are kept: its other refused lines count as
+    /// `other`.
     pub fn refused(&self) -> &RefusalCounts
         ensures { result.now ≡ self.now.refused }
     {
         &self.refused
     }
 
-    /// Counts lines that changed a report from `before` to `after`, and of which these refusals are
-    /// kept.
+    /// Counts lines that changed a report from `before` to `after`, and whose kept refusals are
+    /// these.
     fn count(&mut self, before: Report, after: Report, refusals: &[u8]) -> Result<(), AllocError>
         ensures refused { OnOk result (CountsRefused self.old.refused self.new.refused
             refusals.now (after.refused - before.refused)) }
@@ -143,7 +143,7 @@ impl Writer {
         }
     }
 
-    /// The stream that a piece of a connection goes on with, which is handed over: that of the
+    /// Removes and returns the stream that a piece of a connection continues: that of the
     /// connection, or a new one for its first piece.
     fn stream(&mut self, key: usize, is_first: bool) -> LineStream
         ensures goes_on { GoesOnWith self.old key is_first result }
@@ -157,7 +157,7 @@ impl Writer {
         }
     }
 
-    /// Keeps the stream of a connection up to its next piece.
+    /// Keeps the stream of a connection until its next piece.
     fn keep(&mut self, key: usize, stream: LineStream) -> Result<(), AllocError>
         ensures kept { OnOk result (stream_of self.new key ≡ Some stream) }
         ensures others { OnOk result (KeepsOthers self.old self.new key) }
@@ -213,9 +213,9 @@ impl Writer {
         }
     }
 
-    /// Takes an item: the lines of its body or of its piece are handed to the keeper, where they are
+    /// Takes an item: hands the lines of its body or of its piece to the keeper, where they are
     /// pending; the answer to the item waits until they are committed. Refused as `Memory`: some
-    /// lines may be pending then, and the node can't go on.
+    /// lines may then be pending, and the node can't go on.
     pub fn take<A: Cells, C: Clock, T: Wait>(
         &mut self,
         item: Item,

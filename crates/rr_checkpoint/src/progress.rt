@@ -18,13 +18,13 @@ use std::io::Write;
 /// How far a checkpoint is written.
 #[derive(Clone, Copy)]
 pub(crate) struct Progress {
-    /// The place behind its records so far.
+    /// The place after its records so far.
     pub(crate) place: Cursor,
     /// How many cells these have.
     pub(crate) cells: u64,
 }
 
-/// Adds the number of some cells more.
+/// A number of cells plus that of some more.
 pub(crate) fn with_more(cells: u64, more: usize) -> Result<u64, CheckpointFault>
     ensures { MatchResult result (λ sum. sum ≡ cells + more)
         (λ fault. (fault ≡ CheckpointFault.TooManyCells) × (2 ^ 64 ≤ cells + more)) }
@@ -35,7 +35,7 @@ pub(crate) fn with_more(cells: u64, more: usize) -> Result<u64, CheckpointFault>
     }
 }
 
-/// Writes a record at a place, which moves behind it.
+/// Writes a record at a place, and moves the place past it.
 fn write_raw<W: Write>(
     raw: &RawRecord,
     place: &mut Cursor,
@@ -75,7 +75,7 @@ pub(crate) fn write_cells<W: Write>(
     write_raw(&raw, place, output)
 }
 
-/// The one fault that so short a record can meet.
+/// The only fault that so short a record can meet.
 fn out_of_memory(fault: JournalFault) -> AllocError
     requires { fault ≡ JournalFault.Memory }
 {

@@ -1,4 +1,4 @@
-//! The cells that a reader gives, written one record after the other.
+//! The cells that a reader gives, written one record after another.
 ghost use Rattle.std.specs.Prelude.{◌≡◌, ◌+◌, ◌^◌, ◌<◌, ◌≤◌, IfOk, IsErrOf, OnOk, length, option_map};
 ghost use Rattle.rr_cells.specs.Listing.{owned_cell};
 ghost use Rattle.rr_changes.specs.Changes.{name_in};
@@ -17,8 +17,8 @@ use rr_io::Counted;
 use std::alloc::Global;
 use std::io::Write;
 
-/// Writes the record of the next cells that a reader gives after one, and answers the last of these;
-/// nothing, where no more cells follow.
+/// Writes the record of the next cells that a reader gives after one, and returns the last of
+/// these, or none if no more cells follow.
 fn write_next<A: Cells, W: Write>(
     alloc: Global,
     reader: &mut Reader<A>,
@@ -47,7 +47,7 @@ fn write_next<A: Cells, W: Write>(
     Ok(cells.pop())
 }
 
-/// Writes all cells that a reader gives, a record's at a time: the next ones each time, after what it
+/// Writes all cells that a reader gives, a record's at a time: each time the next ones, by what it
 /// has seen then, until fewer come.
 pub(crate) fn write_walk<A: Cells, W: Write>(
     alloc: Global,

@@ -16,18 +16,18 @@ use rr_journal::{Cursor, header_bytes};
 use std::alloc::Global;
 use std::io::Write;
 
-/// Writes a checkpoint, and answers how many cells it has: the header of a file that begins at
-/// `begins`, records of all cells that the reader gives, a record's at a time, each chained to the one
-/// before it and the first to the digest at `begins`, and the end with the number of cells.
+/// Writes a checkpoint, and returns how many cells it has: the header of a file that begins at
+/// `begins`; records of all cells that the reader gives, a record's at a time, each chained to the
+/// one before it and the first to the digest at `begins`; and the end with the number of cells.
 ///
-/// Whoever reads it and then the journal from `begins` on holds what the node holds, if the reader had
-/// seen all that is written before `begins` when the call began. One record is in memory at a time,
-/// of at most [`MAX_RECORD_CELLS`](rr_commit::MAX_RECORD_CELLS) cells, and the keeper may wait for the
-/// reading of one alone. What is written is for the caller to flush and to sync.
+/// Whoever reads it and then the journal from `begins` on holds what the node holds, if the reader
+/// had seen all that is written before `begins` when the call began. One record is in memory at a
+/// time, of at most [`MAX_RECORD_CELLS`](rr_commit::MAX_RECORD_CELLS) cells, and the keeper waits
+/// at most for the reading of one. The caller must flush and sync what is written.
 ///
-/// Refused as `WriteFailed` where the writer fails, as `TooManyCells` where the reader gives 2^64
-/// cells or more, and as `Memory`. Then a prefix of such a file was written, and is to be removed. The
-/// cost is that of [`Reader::cells_after`] for each record, and linear in the bytes.
+/// Refused as `WriteFailed` if the writer fails, as `TooManyCells` if the reader gives 2^64 cells
+/// or more, and as `Memory`. Then a prefix of such a file was written, and must be removed. The
+/// cost is that of [`Reader::cells_after`] for each record, plus one linear in the bytes.
 pub fn write_checkpoint<A: Cells, W: Write>(
     alloc: Global,
     reader: &mut Reader<A>,

@@ -9,8 +9,8 @@
 //! └── journal WHAT DIR
 //! ```
 //!
-//! [`program`] builds it. In `specs/` its rules are what `clap` reads words by (`Program.antt`);
-//! what words then ask for is said where they are read.
+//! [`program`] builds it. In `specs/` its rules are those by which `clap` reads words
+//! (`Program.antt`); what words then ask for is said where they are read.
 #![tactic(auto)]
 
 mod subcommands;

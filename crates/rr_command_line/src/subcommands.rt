@@ -49,7 +49,7 @@ fn check_lines<'a>(alloc: Global) -> Result<Command<'a>, AllocError>
         ))
 }
 
-/// `NAME`, which has to be there.
+/// `NAME`, which is required.
 fn needed<'a>(alloc: Global, name: &'a str, help: &'a str) -> Arg<'a>
     ensures { IsArg result (needed_rule name.entry.now) }
 {
@@ -182,7 +182,7 @@ fn node_commands<'a>(alloc: Global) -> Result<Command<'a>, AllocError>
     serve_commands(alloc)?.subcommand(node(alloc)?)
 }
 
-/// The program and its subcommands. Refused where memory runs out.
+/// The program and its subcommands. Refused if memory runs out.
 pub fn program<'a>(alloc: Global) -> Result<Command<'a>, AllocError>
     ensures { IfOk result (λ c. app_of c ≡ program_app) }
 {

@@ -33,8 +33,8 @@ fn push_record(
     Ok(())
 }
 
-/// Adds the record of a keeper's next changes after a cell, and answers the last of these; nothing,
-/// where no more changes follow.
+/// Adds the record of a keeper's next changes after a cell, and returns the last of these, or none
+/// if no more changes follow.
 fn push_next<A: Cells>(
     alloc: Global,
     keeper: &Keeper<A>,
@@ -56,9 +56,9 @@ fn push_next<A: Cells>(
     Ok(cells.pop())
 }
 
-/// The changes of a keeper as records: of its live cells of these series those in the slots of their
-/// ranges, in the order of names. The keys of the series strictly ascend. The cost is that of
-/// [`Keeper::changes`], and of packing the cells.
+/// The changes of a keeper as records: its live cells of these series in the slots of their ranges,
+/// in the order of names. The keys of the series must strictly ascend. The cost is that of
+/// [`Keeper::changes`] plus that of packing the cells.
 pub fn change_records<A: Cells>(
     alloc: Global,
     keeper: &Keeper<A>,

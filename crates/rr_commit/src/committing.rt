@@ -7,10 +7,11 @@ ghost use Rattle.rr_commit.specs.Committing.{CommitsAll};
 
 use rr_journal::{CommitFault, Cursor, Journal, RawRecord, commit, fits_between_syncs};
 
-/// Commits records, in batches of no more than may be written between two syncs: each half of too
-/// many on its own. `cursor` is the end of the journal, and moves with it.
+/// Commits records, in batches of no more than may be written between two syncs: too many are
+/// halved, and each half is committed on its own. `cursor` is the end of the journal, and moves
+/// with it.
 ///
-/// All that was written before is synced. Refused as [`commit`] refuses a batch, where the batches
+/// All that was written before must be synced. Refused as [`commit`] refuses a batch; the batches
 /// before it stay.
 pub fn commit_all<J: Journal>(
     journal: &mut J,
@@ -22,7 +23,7 @@ pub fn commit_all<J: Journal>(
     ensures { CommitsAll (map raw_of records.now) (J.synced journal.old) (J.synced journal.new)
         (J.text journal.new) cursor.old cursor.new result }
 {
-    // The proof needs that the offset is one of 64 bits.
+    // The proof needs the offset to be one of 64 bits.
     let _offset = cursor.offset;
     if records.len() < 2 || fits_between_syncs(records) {
         return commit(journal, cursor, records);

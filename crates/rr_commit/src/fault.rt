@@ -10,7 +10,7 @@ pub enum ChangesFault {
     /// committed again.
     #[error("the journal could not be written")]
     NotWritten,
-    /// A sync failed, or what was written could not be taken back: the journal is to be opened and
+    /// A sync failed, or what was written could not be taken back: the journal must be opened and
     /// read again.
     #[error("the journal could not be synced")]
     NotSynced,

@@ -19,7 +19,7 @@ fn is_like(first: &Cell, other: &Cell) -> bool
     other.key == first.key && other.archive == first.archive
 }
 
-/// How many of these cells, from the first on, are of the same key and archive as another.
+/// How many of these cells, from the first on, have the same key and archive as another.
 fn count_like(first: &Cell, others: &[Cell]) -> usize
     ensures bound { result ≤ length others.now }
     ensures like { All (IsLike first.now) (take result others.now) }
@@ -49,7 +49,7 @@ fn entries_of(alloc: Global, cells: &[Cell]) -> Result<Vec<(i64, Entry)>, AllocE
     Ok(entries)
 }
 
-/// A group of cells that are all of the key and archive of one.
+/// A group of cells that all have the key and archive of one.
 fn group_of(alloc: Global, first: &Cell, cells: &[Cell]) -> Result<Group, AllocError>
     requires like { All (IsLike first.now) cells.now }
     requires few { length cells.now < 2 ^ 32 }
@@ -59,7 +59,7 @@ fn group_of(alloc: Global, first: &Cell, cells: &[Cell]) -> Result<Group, AllocE
     ensures size { IfOk result (λ group.
         length group.packed.items ≤ 24 + 123 * length cells.now) }
 {
-    // The proof needs what the key keeps to, which `text` ensures.
+    // The proof needs the limits of the key, which `text` ensures.
     let _text = first.key.text();
     let entries = entries_of(alloc, cells)?;
     Ok(Group {
@@ -69,7 +69,7 @@ fn group_of(alloc: Global, first: &Cell, cells: &[Cell]) -> Result<Group, AllocE
     })
 }
 
-/// Some cells, those at their beginning that are of the key and archive of the first, and the others.
+/// The first of some cells, those at their beginning with its key and archive, and the others.
 #[derive(Clone, Copy)]
 struct Run<'a> {
     first: &'a Cell,
@@ -89,8 +89,8 @@ fn next_run(cells: &[Cell]) -> Option<Run<'_>>
     Some(Run { first, run, left })
 }
 
-/// Cells in groups, in the same order: a group for those that follow each other of one key and
-/// archive. The cost is that of [`rr_codec::encode`] for each.
+/// Cells in groups, in the same order: a group for consecutive cells of one key and archive. The
+/// cost is that of [`rr_codec::encode`] for each.
 pub(crate) fn groups_of(alloc: Global, cells: &[Cell]) -> Result<Vec<Group>, AllocError>
     requires { length cells.now < 2 ^ 32 }
     ensures { IfOk result (λ groups. HaveCells groups.items cells.now) }

@@ -13,15 +13,15 @@ use rr_desk::Keeper;
 use rr_journal::{Cursor, Journal};
 use std::alloc::Global;
 
-/// Commits what a keeper holds and its journal doesn't: after it whoever has joined what was written
-/// before, and reads on in the journal, holds what the keeper holds, and that survives a crash. So
-/// whatever the keeper took may be acknowledged then. `cursor` is the end of the journal, and moves
+/// Commits what a keeper holds and its journal doesn't: whoever has joined what was written before,
+/// and then reads on in the journal, holds what the keeper holds, and that survives a crash. So
+/// whatever the keeper took may then be acknowledged. `cursor` is the end of the journal, and moves
 /// with it.
 ///
-/// All that was written before is synced. Refused as `NotWritten`, where the changes stay to be
-/// committed again; as `NotSynced`, after which the journal is to be opened and read again; and as
-/// `Memory`. The keeper is as before then, and what was synced stays; unless it is `NotSynced`, some
-/// batches may be committed, and the cursor is behind them. The cost is that of the series that
+/// All that was written before must be synced. Refused as `NotWritten`, where the changes remain to
+/// be committed again; as `NotSynced`, after which the journal must be opened and read again; and
+/// as `Memory`. The keeper is then as before, and what was synced stays; unless it is `NotSynced`,
+/// some batches may be committed, and the cursor is after them. The cost is that of the series that
 /// changed since.
 pub fn commit_changes<A: Cells, J: Journal>(
     alloc: Global,
@@ -38,7 +38,7 @@ pub fn commit_changes<A: Cells, J: Journal>(
         cursor.old cursor.new) }
     ensures grows { Grows (J.synced journal.old) (J.synced journal.new) }
 {
-    // The proof needs that the offset is one of 64 bits.
+    // The proof needs the offset to be one of 64 bits.
     let _offset = cursor.offset;
     let series = keeper.changed_series(alloc)?;
     let records = change_records(alloc, keeper, &series)?;

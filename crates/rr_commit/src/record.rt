@@ -12,7 +12,7 @@ pub const MAX_RECORD_CELLS: usize = 512;
 
 const _: () = prove!(MAX_RECORD_CELLS == 512);
 
-/// The one fault that so few cells can meet.
+/// The only fault that so few cells can meet.
 fn out_of_memory(fault: JournalFault) -> AllocError
     requires { fault ≡ JournalFault.Memory }
 {
@@ -20,8 +20,8 @@ fn out_of_memory(fault: JournalFault) -> AllocError
     AllocError
 }
 
-/// Cells as a record, which has them in the same order: at most [`MAX_RECORD_CELLS`], and one or
-/// more, or the record means nothing. The cost is linear in the cells.
+/// Cells as a record, which has them in the same order: at most [`MAX_RECORD_CELLS`], and at least
+/// one, or the record means nothing. The cost is linear in the cells.
 pub fn record_of(alloc: Global, cells: &[Cell]) -> Result<RawRecord, AllocError>
     requires { length cells.now ≤ MAX_RECORD_CELLS }
     ensures { IfOk result (λ raw. IsRecordOf cells.now raw) }

@@ -16,7 +16,7 @@ use toml::Table;
 /// The addresses of a node and of its peers.
 #[derive(Drop)]
 pub(crate) struct Addresses {
-    /// The one that lines are taken on.
+    /// The address that lines are taken on.
     pub(crate) lines: String,
     /// Those that fetches are answered on.
     pub(crate) fetch: Vec<String>,
@@ -35,7 +35,7 @@ pub(crate) fn address_at(alloc: Global, table: &Table, key: &str) -> Result<Stri
     }
 }
 
-/// The addresses of fetches.
+/// The fetch addresses.
 pub(crate) fn fetch_in(alloc: Global, table: &Table) -> Result<Vec<String>, ConfigFault>
     ensures { GivesUnless ConfigFault.Memory (λ texts. map string_bytes texts.items) result
         (needed readers_of (get_member (codes "fetch") (table_view table.now))) }
@@ -46,7 +46,7 @@ pub(crate) fn fetch_in(alloc: Global, table: &Table) -> Result<Vec<String>, Conf
     }
 }
 
-/// The peers, none where the key is missing.
+/// The peers; none if the key is missing.
 pub(crate) fn peers_in(alloc: Global, table: &Table) -> Result<Vec<String>, ConfigFault>
     ensures { GivesUnless ConfigFault.Memory (λ texts. map string_bytes texts.items) result
         (if_there [] texts_of (get_member (codes "peers") (table_view table.now))) }

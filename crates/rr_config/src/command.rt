@@ -1,4 +1,4 @@
-//! The two commands that serve as a node, as far as their configurations differ for an operator.
+//! The two commands that serve as a node, and how their configurations differ for an operator.
 
 use crate::config::Config;
 use crate::fault::ConfigFault;
@@ -6,13 +6,13 @@ use crate::node::NodeConfig;
 use std::alloc::Global;
 use toml::Table;
 
-/// What is said of a key that no command has.
+/// What is said about a key that no command has.
 pub(crate) const UNKNOWN: &str = "this key is unknown, and ignored";
 
-/// What is said of a key that only `rr serve` has in a configuration of `rr node`.
+/// What is said about a key that only `rr serve` has in a configuration of `rr node`.
 const OF_SERVE: &str = "this key is of rr serve, and ignored";
 
-/// What is said of a key that only `rr node` has in a configuration of `rr serve`.
+/// What is said about a key that only `rr node` has in a configuration of `rr serve`.
 const OF_NODE: &str = "this key is of rr node, and ignored";
 
 /// The keys of `rr serve`.
@@ -65,7 +65,7 @@ impl Command {
         }
     }
 
-    /// What is said of a key that is ignored.
+    /// What is said about a key that is ignored.
     pub(crate) fn ignored(self, key: &str) -> Option<&'static str> {
         match self {
             Command::Serve if SERVE_KEYS.contains(&key) => None,
@@ -76,7 +76,7 @@ impl Command {
         }
     }
 
-    /// What the value at a key has to be, where more is said of it than of the fault.
+    /// What the value at a key must be, if there is more to say than the fault does.
     pub(crate) fn bounds(self, key: &str, fault: ConfigFault) -> Option<&'static str> {
         match (self, fault) {
             (Command::Node, ConfigFault::BadCount) => Some(node_bounds(key)),
@@ -85,7 +85,7 @@ impl Command {
     }
 }
 
-/// What the numbers at a key of `rr node` have to be.
+/// What the numbers at a key of `rr node` must be.
 fn node_bounds(key: &str) -> &'static str {
     match key {
         "origins" => "must be two numbers from 1 to 65,535, the first not above the second",

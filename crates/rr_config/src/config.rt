@@ -27,24 +27,22 @@ pub struct Config {
     pub lines: String,
     /// The addresses that fetches are answered on, each by a reader of its own: from 1 to 16.
     pub fetch: Vec<String>,
-    /// The addresses of the peers, in the order in which they are pulled.
+    /// The addresses of the peers, in the order in which they are pulled from.
     pub peers: Vec<String>,
-    /// How many line connections are taken; without end where it is 0.
+    /// How many line connections are taken; unlimited if 0.
     pub rounds: u64,
-    /// How many connections each reader takes; without end where it is 0.
+    /// How many connections each reader takes; unlimited if 0.
     pub visits: u64,
-    /// By how many nanoseconds the time of a point may be ahead of the clock; by any where it is
-    /// missing.
+    /// How many nanoseconds the time of a point may be ahead of the clock; unlimited if absent.
     pub lead: Option<u64>,
     /// The unit of the times of lines.
     pub precision: Precision,
-    /// For how many seconds a connection may move no byte, from 1 to 86,400; without end where it
-    /// is missing.
+    /// How many seconds a connection may move no byte, from 1 to 86,400; indefinitely if absent.
     pub idle: Option<u64>,
-    /// At most once in how many seconds the peers are pulled and a snapshot is saved, and that also
-    /// where no line comes, from 1 to 86,400; after each line connection where it is missing.
+    /// The peers are pulled from and a snapshot is saved at most once in this many seconds, from 1
+    /// to 86,400, even if no line comes; after each line connection if absent.
     pub every: Option<u64>,
-    /// Whether nothing is said of a start that succeeds and of rounds.
+    /// Whether nothing is said of a successful start and of rounds.
     pub quiet: bool,
     /// The file that counts of what the node did are written to, if any.
     pub status: Option<String>,
@@ -86,7 +84,7 @@ impl Config {
     /// text. All but `lines` and `fetch` may be missing. Other keys are ignored.
     ///
     /// Refusals, in this order: those of the schema; then key by key, in the order above,
-    /// `MissingField`, `WrongKind`, and `BadCount` or `BadPrecision`. `Memory` is answered where
+    /// `MissingField`, `WrongKind`, and `BadCount` or `BadPrecision`. `Memory` is returned if
     /// memory runs out. The cost is that of reading the text once.
     pub fn from_toml(alloc: Global, text: &[u8]) -> Result<Config, ConfigFault>
         ensures read { GivesUnless ConfigFault.Memory config_view result (config_of text.now) }

@@ -13,7 +13,7 @@ use std::alloc::Global;
 use std::str;
 use toml::Table;
 
-/// The table that a text writes. `BadToml` where it is not UTF-8 or not TOML.
+/// The table that a text writes. `BadToml` if the text isn't UTF-8 or isn't TOML.
 pub(crate) fn table_of(alloc: Global, text: &[u8]) -> Result<Table, ConfigFault>
     ensures read { GivesUnless ConfigFault.Memory table_view result (members_of text.now) }
     ensures foreign { is_utf8 text.now ≡ false → result ≡ Err (ConfigFault.Schema BadToml) }

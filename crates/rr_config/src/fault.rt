@@ -28,7 +28,7 @@ pub enum ConfigFault {
 impl ConfigFault {
     ghost use Rattle.rr_config.specs.Fault.{config_fault_name};
 
-    /// The printed name: that of the schema's fault where it is one.
+    /// The printed name; for a schema, that of its fault.
     pub fn name(&self) -> &'static str
         ensures { result.now ≡ config_fault_name self.now }
     {

@@ -1,4 +1,4 @@
-//! What a node does at which times, and what it tells.
+//! A node's timing, and what it reports.
 
 ghost use Rattle.std.specs.Prelude.{◌≡◌, false, None, codes, option_map};
 ghost use Rattle.std.specs.String.{string_bytes};
@@ -13,15 +13,14 @@ use crate::value::{find, flag_of, owned_text_of, seconds_of};
 use std::alloc::Global;
 use toml::Table;
 
-/// What a node does at which times, and what it tells.
+/// A node's timing, and what it reports.
 #[derive(Drop)]
 pub(crate) struct Habits {
-    /// For how many seconds it waits for a byte; without end where it is missing.
+    /// How many seconds it waits for a byte; indefinitely if absent.
     pub(crate) idle: Option<u64>,
-    /// At most once in how many seconds it pulls and saves; after each line connection where it is
-    /// missing.
+    /// It pulls and saves at most once in this many seconds; after each line connection if absent.
     pub(crate) every: Option<u64>,
-    /// Whether it says nothing of a start that succeeds and of rounds.
+    /// Whether it says nothing of a successful start and of rounds.
     pub(crate) quiet: bool,
     /// The file that it writes counts to, if any.
     pub(crate) status: Option<String>,
@@ -37,7 +36,7 @@ pub(crate) fn seconds_in(table: &Table, key: &str) -> Result<Option<u64>, Config
     }
 }
 
-/// Whether a node is to say little, which it isn't where the key is missing.
+/// Whether a node is to say little; false if the key is missing.
 pub(crate) fn quiet_in(table: &Table) -> Result<bool, ConfigFault>
     ensures { result ≡ if_there false flag_of (get_member (codes "quiet") (table_view table.now)) }
 {

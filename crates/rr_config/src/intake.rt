@@ -15,17 +15,17 @@ use toml::Table;
 /// What a node takes: how many connections, and which times.
 #[derive(Clone, Copy)]
 pub(crate) struct Intake {
-    /// How many line connections; without end where it is 0.
+    /// How many line connections; unlimited if 0.
     pub(crate) rounds: u64,
-    /// How many connections of each reader; without end where it is 0.
+    /// How many connections of each reader; unlimited if 0.
     pub(crate) visits: u64,
-    /// How far ahead of the clock a time may be, in nanoseconds; any where it is missing.
+    /// How far ahead of the clock a time may be, in nanoseconds; unlimited if absent.
     pub(crate) lead: Option<u64>,
     /// The unit of the times of lines.
     pub(crate) precision: Precision,
 }
 
-/// A number, 0 where the key is missing.
+/// A number; 0 if the key is missing.
 pub(crate) fn count_in(table: &Table, key: &str) -> Result<u64, ConfigFault>
     ensures { result ≡ if_there 0 count_of (get_member key.now (table_view table.now)) }
 {
@@ -45,7 +45,7 @@ pub(crate) fn lead_in(table: &Table) -> Result<Option<u64>, ConfigFault>
     }
 }
 
-/// The precision, nanoseconds where the key is missing.
+/// The precision; nanoseconds if the key is missing.
 pub(crate) fn precision_in(table: &Table) -> Result<Precision, ConfigFault>
     ensures { result ≡ if_there Ns precision_of (get_member (codes "precision") (table_view table.now)) }
 {

@@ -1,10 +1,10 @@
 //! The configuration of a node: what an operator writes in TOML.
 //!
-//! A [`Config`] is that of `rr serve`: it has the schema of the store, the addresses that the node
+//! A [`Config`] is for `rr serve`: it has the schema of the store, the addresses that the node
 //! listens on, its peers, how long it serves, and how the times of lines are taken. A
-//! [`NodeConfig`] is that of `rr node`, which is asked over HTTP; its [`OriginRange`] gives each
-//! start an origin of its own. Each is read by its `from_toml`; [`remarks`] and [`node_remarks`]
-//! tell an operator where a text is refused, and which of its keys are ignored.
+//! [`NodeConfig`] is for `rr node`, which answers over HTTP; its [`OriginRange`] gives each start
+//! an origin of its own. Each is read by its `from_toml`; [`remarks`] and [`node_remarks`] tell an
+//! operator where a text is refused, and which of its keys are ignored.
 //!
 //! ```text
 //! TOML text ── document ──> a table ── value, key by key ──> Config, NodeConfig
@@ -12,7 +12,7 @@
 //! ```
 //!
 //! In `specs/` the configuration of a text is a function of its TOML table, key by key, and so is
-//! the first fault of a text that is refused. [`laws`] says what each configuration keeps to, and
+//! the first fault of a refused text. [`laws`] says which limits each configuration keeps to, and
 //! that it depends on its keys alone.
 #![tactic(auto)]
 

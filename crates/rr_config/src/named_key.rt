@@ -20,12 +20,12 @@ pub(crate) const ARCHIVE_KEYS: [&str; 4] = ["steps", "rows", "xff_num", "xff_den
 pub(crate) struct NamedKey<'a> {
     /// The key.
     pub(crate) key: &'a str,
-    /// The archive that has it, from 1, unless it stands above all archives.
+    /// The archive that has it, from 1, unless it is above all archives.
     pub(crate) archive: Option<usize>,
 }
 
 impl<'a> NamedKey<'a> {
-    /// A key that stands above all archives.
+    /// A key above all archives.
     pub(crate) fn above(key: &'a str) -> NamedKey<'a> {
         NamedKey { key, archive: None }
     }
@@ -66,7 +66,7 @@ fn first_refused(refusals: &[(&'static str, bool)]) -> Option<&'static str> {
     None
 }
 
-/// The first key of `rr node`, but for those of its schema, whose value is refused.
+/// The first key of `rr node` whose value is refused, other than those of its schema.
 fn refused_node_key(alloc: Global, table: &Table) -> Option<&'static str> {
     first_refused(&[
         ("http", address_at(alloc, table, "http").is_err()),
@@ -81,7 +81,7 @@ fn refused_node_key(alloc: Global, table: &Table) -> Option<&'static str> {
     ])
 }
 
-/// The first key of `rr serve`, but for those of its schema, whose value is refused.
+/// The first key of `rr serve` whose value is refused, other than those of its schema.
 fn refused_serve_key(alloc: Global, table: &Table) -> Option<&'static str> {
     first_refused(&[
         ("lines", address_at(alloc, table, "lines").is_err()),
@@ -162,7 +162,7 @@ fn unread_key(table: &Table) -> Option<NamedKey<'static>> {
     None
 }
 
-/// The whole number at a key; one that doesn't fit is past each limit.
+/// The whole number at a key; one that doesn't fit counts as past every limit.
 fn whole_at(table: &Table, key: &str) -> Option<u32> {
     let number = find(table, key)?.as_integer()?;
     Some(u32::try_from(number).unwrap_or(u32::MAX))
@@ -178,7 +178,7 @@ fn spec_of(table: &Table) -> Option<ArchiveSpec> {
     })
 }
 
-/// The archive, from 1, with which those before it are refused so.
+/// The first archive, from 1, that together with those before it is refused with this fault.
 fn refused_archive(alloc: Global, table: &Table, fault: SchemaFault) -> Option<usize> {
     let step = whole_at(table, "step")?;
     let mut specs = Vec::new(alloc);

@@ -24,7 +24,7 @@ use rr_text::limits::MAX_READERS;
 use std::alloc::Global;
 use toml::{Table, Value};
 
-/// For how many seconds a connection may be silent, if the configuration doesn't say.
+/// How many seconds a connection may be silent, if the configuration doesn't say.
 pub(crate) const NODE_IDLE: u64 = 60;
 
 const _: () = prove!(NODE_IDLE == 60);
@@ -43,29 +43,28 @@ const _: () = prove!(MAX_NODE_READERS == 14);
 // Checkpoints have a reader too.
 const _: () = prove!(MAX_NODE_READERS < MAX_READERS as u64);
 
-/// What an operator configures of a node that keeps a journal.
+/// What an operator configures for a node that keeps a journal.
 #[derive(Debug, Drop)]
 pub struct NodeConfig {
     /// The schema of the store.
     pub schema: Schema,
-    /// The address of HTTP.
+    /// The HTTP address.
     pub http: String,
     /// The address of line connections, if any are taken.
     pub lines: Option<String>,
     /// The origins that the node may write under, which no other node has.
     pub origins: OriginRange,
-    /// The addresses of the HTTP of other nodes.
+    /// The HTTP addresses of other nodes.
     pub peers: Vec<String>,
-    /// By how many nanoseconds the time of a point may be ahead of the clock; by any where it is
-    /// missing.
+    /// How many nanoseconds the time of a point may be ahead of the clock; unlimited if absent.
     pub lead: Option<u64>,
     /// The unit of the times of lines.
     pub precision: Precision,
-    /// For how many seconds a connection may be silent, from 1 to 86,400.
+    /// How many seconds a connection may be silent, from 1 to 86,400.
     pub idle: u64,
     /// How many threads answer fetches, from 1 to 14.
     pub readers: u64,
-    /// Whether nothing is said of a start that succeeds.
+    /// Whether nothing is said of a successful start.
     pub quiet: bool,
 }
 
@@ -80,7 +79,7 @@ pub(crate) fn origins_in(table: &Table) -> Result<OriginRange, ConfigFault>
     }
 }
 
-/// For how many seconds a connection may be silent, a minute where the key is missing.
+/// How many seconds a connection may be silent; a minute if the key is missing.
 pub(crate) fn idle_in(table: &Table) -> Result<u64, ConfigFault>
     ensures { result ≡ if_there NODE_IDLE seconds_of
         (get_member (codes "idle") (table_view table.now)) }
@@ -102,7 +101,7 @@ fn reader_count_of(value: &Value) -> Result<u64, ConfigFault>
     Ok(readers)
 }
 
-/// How many threads answer fetches, 4 where the key is missing.
+/// How many threads answer fetches; 4 if the key is missing.
 pub(crate) fn readers_in(table: &Table) -> Result<u64, ConfigFault>
     ensures { result ≡ if_there DEFAULT_READERS reader_count_of
         (get_member (codes "readers") (table_view table.now)) }
@@ -149,12 +148,12 @@ impl NodeConfig {
     /// The keys are those of [`FromToml::from_toml`], and `http`, an address; `lines`, an address;
     /// `origins`, an array of two whole numbers from 1 to 65,535, the first not above the second;
     /// `peers`, an array of addresses; `lead`, a number of nanoseconds from 0; `precision`, one of
-    /// `ns`, `us`, `ms` and `s`; `idle`, a number of seconds from 1 to 86,400, 60 where it is
-    /// missing; `readers`, a number from 1 to 14, 4 where it is missing; and `quiet`, true or
-    /// false. All but `http` and `origins` may be missing. Other keys are ignored.
+    /// `ns`, `us`, `ms` and `s`; `idle`, a number of seconds from 1 to 86,400, 60 if missing;
+    /// `readers`, a number from 1 to 14, 4 if missing; and `quiet`, true or false. All but `http`
+    /// and `origins` may be missing. Other keys are ignored.
     ///
     /// Refusals, in this order: those of the schema; then key by key, in the order above,
-    /// `MissingField`, `WrongKind`, and `BadCount` or `BadPrecision`. `Memory` is answered where
+    /// `MissingField`, `WrongKind`, and `BadCount` or `BadPrecision`. `Memory` is returned if
     /// memory runs out. The cost is that of reading the text once.
     pub fn from_toml(alloc: Global, text: &[u8]) -> Result<NodeConfig, ConfigFault>
         ensures read { GivesUnless ConfigFault.Memory node_config_view result

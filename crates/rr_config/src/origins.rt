@@ -18,7 +18,7 @@ impl OriginRange {
     ghost use Rattle.rr_config.specs.Origins.{IsNext, IsSpent, range_view};
 
     /// The least origin of the range that is above the last one: the first of the range if there
-    /// was no last one or it lies below the range, and none once the range is spent. The cost is
+    /// was no last one or it is below the range, and none once the range is spent. The cost is
     /// constant.
     pub fn next_after(&self, last: Option<Origin>) -> Option<Origin>
         ensures next { IfSome result (IsNext (range_view self.now) last) }

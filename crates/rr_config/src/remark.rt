@@ -1,4 +1,4 @@
-//! What an operator is told of the text of a configuration.
+//! What an operator is told about the text of a configuration.
 
 use crate::command::{Command, UNKNOWN};
 use crate::fault::ConfigFault;
@@ -9,23 +9,23 @@ use std::str;
 use toml::Table;
 use toml::de::Error;
 
-/// What an operator is told of a text beside its [`Config`](crate::Config) or its fault, a line
+/// What an operator is told about a text besides its [`Config`](crate::Config) or its fault, a line
 /// each.
 ///
-/// Of a text that is refused that is the key and the reason. Of any other it is each key that is
-/// ignored, and that there is no `lead`. Of a key that only `rr node` has it says so. The cost is
-/// that of reading the text twice.
+/// For a refused text that is the key and the reason; for any other, each ignored key, and that
+/// there is no `lead`. A key that only `rr node` has is reported as such. The cost is that of
+/// reading the text twice.
 pub fn remarks(alloc: Global, text: &[u8]) -> Result<Vec<String>, AllocError> {
     remarks_for(alloc, Command::Serve, text)
 }
 
-/// What an operator is told of a text beside its [`NodeConfig`](crate::NodeConfig) or its fault, as
-/// by [`remarks`]. Of a key that only `rr serve` has it says so.
+/// What an operator is told about a text besides its [`NodeConfig`](crate::NodeConfig) or its
+/// fault, as by [`remarks`]. A key that only `rr serve` has is reported as such.
 pub fn node_remarks(alloc: Global, text: &[u8]) -> Result<Vec<String>, AllocError> {
     remarks_for(alloc, Command::Node, text)
 }
 
-/// What an operator is told of a text.
+/// What an operator is told about a text.
 fn remarks_for(alloc: Global, command: Command, text: &[u8]) -> Result<Vec<String>, AllocError> {
     let mut lines = Vec::new(alloc);
     match str::from_utf8(text) {
@@ -35,7 +35,7 @@ fn remarks_for(alloc: Global, command: Command, text: &[u8]) -> Result<Vec<Strin
     Ok(lines)
 }
 
-/// Adds what is told of a text.
+/// Adds what is told about a text.
 fn push_remarks(
     alloc: Global,
     lines: &mut Vec<String>,
@@ -48,7 +48,7 @@ fn push_remarks(
     }
 }
 
-/// Adds why a text is no TOML.
+/// Adds why a text isn't TOML.
 fn push_error(alloc: Global, lines: &mut Vec<String>, error: &Error) -> Result<(), AllocError> {
     if error.is_memory() {
         return Err(AllocError);
@@ -58,7 +58,7 @@ fn push_error(alloc: Global, lines: &mut Vec<String>, error: &Error) -> Result<(
     Ok(())
 }
 
-/// The lines of a text as one.
+/// The lines of a text, joined into one.
 fn on_one_line(alloc: Global, text: &str) -> Result<String, AllocError> {
     let mut whole = String::new(alloc);
     for line in text.lines() {
@@ -70,7 +70,7 @@ fn on_one_line(alloc: Global, text: &str) -> Result<String, AllocError> {
     Ok(whole)
 }
 
-/// Adds what is told of a table.
+/// Adds what is told about a table.
 fn push_table_remarks(
     alloc: Global,
     lines: &mut Vec<String>,
@@ -108,7 +108,7 @@ fn push_refusal(
     }
 }
 
-/// Adds what is told of a key.
+/// Adds what is told about a key.
 fn push_of_key(
     alloc: Global,
     lines: &mut Vec<String>,
@@ -119,7 +119,7 @@ fn push_of_key(
     Ok(())
 }
 
-/// Adds the keys of a table that are ignored, and those of its archives.
+/// Adds the ignored keys of a table, and those of its archives.
 fn push_ignored(
     alloc: Global,
     lines: &mut Vec<String>,
@@ -143,7 +143,7 @@ fn push_ignored(
     Ok(())
 }
 
-/// Adds the keys of an archive that are ignored.
+/// Adds the ignored keys of an archive.
 fn push_ignored_of_archive(
     alloc: Global,
     lines: &mut Vec<String>,

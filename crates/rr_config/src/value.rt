@@ -31,14 +31,14 @@ fn text_of(value: &Value) -> Result<&str, ConfigFault>
     value.as_str().ok_or(ConfigFault::WrongKind)
 }
 
-/// A text of the caller's own.
+/// An owned copy of a text.
 pub(crate) fn owned_text_of(alloc: Global, value: &Value) -> Result<String, ConfigFault>
     ensures { GivesUnless ConfigFault.Memory string_bytes result (text_of (view value.now)) }
 {
     Ok(String::from_str(alloc, text_of(value)?)?)
 }
 
-/// Yes or no.
+/// True or false.
 pub(crate) fn flag_of(value: &Value) -> Result<bool, ConfigFault>
     ensures { result ≡ flag_of (view value.now) }
 {
@@ -79,7 +79,7 @@ fn texts_in(alloc: Global, values: &Vec<Value>) -> Result<Vec<String>, ConfigFau
     Ok(texts)
 }
 
-/// The addresses that fetches are answered on, from 1 to 16 of them.
+/// The 1 to 16 addresses that fetches are answered on.
 pub(crate) fn readers_of(alloc: Global, value: &Value) -> Result<Vec<String>, ConfigFault>
     ensures { GivesUnless ConfigFault.Memory (λ texts. map string_bytes texts.items) result
         (readers_of (view value.now)) }
@@ -144,7 +144,7 @@ fn range_between(least: &Value, greatest: &Value) -> Result<OriginRange, ConfigF
     Ok(OriginRange { first, last })
 }
 
-/// The range of two values, of no more and no fewer.
+/// The range of exactly two values.
 fn range_in(values: &Vec<Value>) -> Result<OriginRange, ConfigFault>
     ensures { Gives range_view result (range_in (array_view values.now)) }
 {

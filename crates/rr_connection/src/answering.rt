@@ -16,7 +16,7 @@ use std::alloc::{AllocError, Global};
 pub enum AnswerFault {
     /// No request is out.
     NotAsked,
-    /// The reply is no response of HTTP, or memory ran out.
+    /// The reply isn't an HTTP response, or memory ran out.
     Write(WriteError),
 }
 

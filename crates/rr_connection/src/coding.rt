@@ -14,7 +14,7 @@ fn is_coding(name: &[u8], value: &[u8]) -> bool
     name.eq_ignore_ascii_case(b"content-encoding") && !value.eq_ignore_ascii_case(b"identity")
 }
 
-/// Whether a head whose fields are there in the input has such a field.
+/// Whether a head with these fields of the input has such a field.
 pub(crate) fn has_coding(input: &[u8], headers: &[HeaderSpan]) -> bool
     requires { All (IsHeaderWithin (length input.now)) headers.now }
     ensures { result ≡ list_any is_coding (map (header_bytes input.now) headers.now) }

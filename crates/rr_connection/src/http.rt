@@ -1,4 +1,4 @@
-//! A connection of HTTP/1.1.
+//! An HTTP/1.1 connection.
 
 ghost use Rattle.std.specs.Prelude.{◌≡◌, ◌++◌, List, [], ℕ, min, drop, length, OnOk, None, ◌==◌, ◌+◌, not};
 ghost use Rattle.http1.specs.declared.conn.Limits.{Limits};
@@ -11,7 +11,7 @@ use bytes::BytesMut;
 use http1::{BodySize, Limits, Server};
 use std::alloc::{AllocError, Global};
 
-/// A head has at most this many fields, and a body as many trailers.
+/// A head has at most this many fields, and a body at most as many trailers.
 pub const MAX_HEADERS: usize = 64;
 
 const _: () = prove!(MAX_HEADERS == 64);
@@ -27,7 +27,7 @@ pub(crate) enum Phase {
     Over,
 }
 
-/// A connection of HTTP/1.1, with what was received and isn't read yet, and what isn't sent yet.
+/// An HTTP/1.1 connection, with what was received but not yet read, and what is not yet sent.
 #[derive(Drop)]
 pub struct HttpConnection {
     pub(crate) alloc: Global,
@@ -36,14 +36,14 @@ pub struct HttpConnection {
     pub(crate) has_ended: bool,
     pub(crate) server: Server,
     pub(crate) unread: BytesMut,
-    /// The request whose body is being received, with as much of it as came.
+    /// The request whose body is being received, with as much of it as has come.
     pub(crate) part: Option<Request>,
     /// Whether the request that is out has the method `HEAD`, whose response has no body.
     pub(crate) is_head: bool,
     pub(crate) unsent: BytesMut,
 }
 
-/// How many bytes are allocated for a body of which not everything was received.
+/// How many bytes are allocated for a body that isn't fully received.
 fn part_room(part: &Option<Request>) -> usize
     ensures { result ≡ part_room part.now }
 {
@@ -132,8 +132,8 @@ impl HttpConnection {
         self.phase == Phase::Receives && self.part.is_some()
     }
 
-    /// How many bytes the body has in all that is being received, at most as many as one may have:
-    /// as many if its head doesn't say how many. None if no body is being received.
+    /// The full size of the body being received, at most `max_body`, and `max_body` if its head
+    /// gives no length. 0 if no body is being received.
     pub fn body_size(&self) -> usize
         ensures { result ≡ body_size self.now }
     {
@@ -148,7 +148,8 @@ impl HttpConnection {
         }
     }
 
-    /// How many bytes a body has of which so many came and so many are left.
+    /// The size of a body, from the bytes that have arrived and those still to come; at most the size
+    /// that a body may have.
     fn whole(&self, came: usize, left: u64) -> usize
         ensures { result ≡ min (came + left) self.now.max_body }
     {

@@ -8,20 +8,20 @@ use memchr::memrchr;
 use rr_text::bytes::LINE_FEED;
 use std::alloc::{AllocError, Global};
 
-/// A piece has at most this many bytes, and no more are received while as many are unread.
+/// A piece has at most this many bytes, and no more are received while that many are unread.
 pub const PIECE: usize = 128 * 1024;
 
 const _: () = prove!(PIECE == 131_072);
 
-/// Bytes of a connection for lines that follow one another: whole lines, except where the input
-/// ended within a line, or [`PIECE`] bytes hold no line feed.
+/// Consecutive bytes of a connection for lines: whole lines, unless the input ended within a line
+/// or [`PIECE`] bytes hold no line feed.
 #[derive(Debug, Drop)]
 pub struct Piece {
     /// The bytes.
     pub text: Vec<u8>,
-    /// Whether no piece was before it.
+    /// Whether no piece came before it.
     pub is_first: bool,
-    /// Whether the input ended behind it.
+    /// Whether the input ended after it.
     pub is_last: bool,
 }
 
@@ -38,12 +38,12 @@ enum Phase {
     Over,
 }
 
-/// A connection for lines, with what was received and isn't read yet, and what isn't sent yet.
+/// A connection for lines, with what was received but not yet read, and what is not yet sent.
 #[derive(Drop)]
 pub struct LineConnection {
     alloc: Global,
     phase: Phase,
-    /// Whether a piece was given.
+    /// Whether a piece has been given.
     has_given: bool,
     has_ended: bool,
     unread: BytesMut,
@@ -143,15 +143,15 @@ impl LineConnection {
         self.phase == Phase::Receives && self.unsent.len() <= MAX_UNSENT
     }
 
-    /// Whether the next piece has these bytes, which hold no line feed: no more will come, or there are
-    /// as many as it may have.
+    /// Whether the next piece is these `len` bytes, which hold no line feed: no more will come, or
+    /// there are as many as it may have.
     fn is_cut(&self, len: usize) -> bool
         ensures { result ≡ (has_ended self.now || len == PIECE) }
     {
         self.has_ended || len == PIECE
     }
 
-    /// How many bytes the next piece has, if it is there.
+    /// The length of the next piece, if it is there.
     fn next_len(&self) -> Option<usize>
         ensures { IsNextLen (unread_of self.now) (has_ended self.now) result }
     {
@@ -163,7 +163,7 @@ impl LineConnection {
         }
     }
 
-    /// Takes the first bytes out.
+    /// Removes and returns the first `len` bytes.
     fn take(&mut self, len: usize) -> Result<Vec<u8>, AllocError>
         requires { len ≤ length (unread_of self.old) }
         ensures text { IfOk result (λ text. text.items ≡ take len (unread_of self.old)) }
@@ -177,8 +177,8 @@ impl LineConnection {
         Ok(text)
     }
 
-    /// The next piece, if it is there, none is out, and not too many bytes wait to be sent. If memory
-    /// runs out, nothing is changed. The cost is linear in the bytes that are unread.
+    /// The next piece, if it is there, none is out, and not too many bytes wait to be sent. If
+    /// memory runs out, nothing changes. The cost is linear in the unread bytes.
     pub fn next(&mut self) -> Result<Option<Piece>, AllocError>
         ensures found { IfOk result (λ found. MatchOption found
             (AwaitsMore self.old × (self.new ≡ self.old)) (IsPiece self.old self.new)) }
@@ -207,7 +207,7 @@ impl LineConnection {
         }))
     }
 
-    /// Answers the piece that is out. If memory runs out, nothing is changed.
+    /// Answers the piece that is out. If memory runs out, nothing changes.
     pub fn answer(&mut self, text: &[u8]) -> Result<(), AllocError>
         ensures ok { OnOk result (unsent_of self.new ≡ unsent_of self.old ++ text.now) }
         ensures next { OnOk result (self.new.phase ≡ after_answer self.old.phase) }

@@ -15,16 +15,16 @@ use httparse::spans::{EMPTY_HEADER_SPAN, HeaderSpan, RequestSpans, Span};
 
 const CONTINUE: &[u8] = b"HTTP/1.1 100 Continue\r\n\r\n";
 
-/// What was found in what was received.
+/// What was found in the received bytes.
 #[derive(Debug, Drop)]
 pub enum Found {
-    /// The next request, whole. None follows before it is answered.
+    /// The next request, whole. None follows until it is answered.
     Request(Request),
     /// No whole request yet.
     Nothing,
     /// What was received is refused, and the connection ends once that is sent.
     Refused(Refusal),
-    /// The input ended behind a whole request, and the connection with it.
+    /// The input ended after a whole request, and the connection with it.
     Ended,
 }
 
@@ -33,7 +33,7 @@ pub enum Found {
 pub(crate) enum Step {
     /// There may be more events.
     On,
-    /// There is no other for now.
+    /// There are no more for now.
     Stop(Found),
 }
 
@@ -45,8 +45,8 @@ impl HttpConnection {
     ghost use Rattle.rr_connection.specs.Receiving.{AfterRead, Finds, IsReceiving, IsStarved, Leads};
     ghost use Rattle.rr_connection.specs.Receiving.{Reached, Sends, StepsOn, found_text, step_text};
 
-    /// Refuses what comes, and reads nothing more. Where the response to that can't be kept, memory
-    /// ran out.
+    /// Refuses what comes, and reads nothing more. If there is no memory for the response, the
+    /// refusal becomes that of memory.
     fn refuse(&mut self, refusal: Refusal) -> Found
         ensures found { Leads (IsRefused self.old.max_body refusal)
             (Finds self.old.max_body result self.new) }
@@ -93,7 +93,7 @@ impl HttpConnection {
         }
     }
 
-    /// Begins with a request, whose head was read.
+    /// Begins a request whose head was read.
     fn begin(&mut self, spans: &[HeaderSpan], head: &RequestSpans, consumed: usize) -> Step
         requires phase { self.old.phase ≡ Phase.Receives }
         requires within { IsRequestWithin (self.old.unread.items) spans.now head.now }
@@ -148,7 +148,7 @@ impl HttpConnection {
         Step::On
     }
 
-    /// Gives the request, which is whole.
+    /// Gives the whole request.
     fn give(&mut self, consumed: usize) -> Step
         requires phase { self.old.phase ≡ Phase.Receives }
         requires consumed { consumed ≤ length self.old.unread.items }
@@ -196,8 +196,8 @@ impl HttpConnection {
 
     /// The next request, if it is whole, none is out, and not too many bytes wait to be sent.
     ///
-    /// The cost is linear in the bytes that were received since the last call, but that a head which
-    /// isn't whole yet is read again.
+    /// The cost is linear in the bytes received since the last call, except that a head which isn't
+    /// whole yet is read again.
     pub fn next(&mut self) -> Found
         ensures found { OnTrue (is_ready self.old)
             (Leads (IsReceiving self.old) (Finds self.old.max_body result self.new)) }

@@ -8,9 +8,9 @@ use http1::ReadError;
 /// Why nothing more is read from a connection.
 #[derive(Clone, Copy, Debug, PartialEq, Eq)]
 pub enum Refusal {
-    /// What was sent is no request, or its head is too long.
+    /// What was sent isn't a request, or its head is too long.
     Malformed(ReadError),
-    /// The body is longer than it may be.
+    /// The body is longer than allowed.
     BodyTooLong,
     /// The body has a transfer coding other than `chunked`.
     UnknownCoding,
@@ -36,7 +36,7 @@ const NOT_IMPLEMENTED: &[u8] =
     b"HTTP/1.1 501 Not Implemented\r\nconnection: close\r\ncontent-length: 0\r\n\r\n";
 
 impl Refusal {
-    /// The response that says so, after which the connection ends; nothing where memory ran out.
+    /// The response that says so, after which the connection ends; nothing if memory ran out.
     pub fn text(self) -> &'static [u8]
         ensures { result.now ≡ refusal_text self }
     {

@@ -1,4 +1,4 @@
-//! Replies, before they are responses of HTTP.
+//! Replies, before they become HTTP responses.
 
 ghost use Rattle.std.specs.Prelude.{◌≡◌};
 ghost use Rattle.rr_connection.specs.Answer.{reason_of};
@@ -6,9 +6,9 @@ ghost use Rattle.rr_connection.specs.Answer.{reason_of};
 /// The value of a field.
 #[derive(Debug, Drop)]
 pub enum Value {
-    /// One that the program has.
+    /// A constant of the program.
     Constant(&'static [u8]),
-    /// One that was made for this reply.
+    /// Made for this reply.
     Made(Vec<u8>),
 }
 
@@ -21,12 +21,12 @@ pub struct Field {
     pub value: Value,
 }
 
-/// What a request is answered.
+/// The answer to a request.
 #[derive(Debug, Drop)]
 pub struct Reply {
-    /// The status, from 200 on.
+    /// The status, at least 200.
     pub status: u16,
-    /// The fields, but for those of the body's length and of the connection.
+    /// The fields, except those for the body's length and the connection.
     pub fields: Vec<Field>,
     /// The body.
     pub body: Vec<u8>,
@@ -48,7 +48,7 @@ impl Value {
     }
 }
 
-/// The reason phrase of a status (RFC 9110, section 15), or none for one that no reply has.
+/// The reason phrase of a status (RFC 9110, section 15), or empty for one that no reply has.
 pub(crate) fn reason_of(status: u16) -> &'static [u8]
     ensures { result.now ≡ reason_of status }
 {

@@ -8,15 +8,15 @@ use crate::coding::has_coding;
 use httparse::spans::{HeaderSpan, RequestSpans};
 use std::alloc::{AllocError, Global};
 
-/// A request, whole.
+/// A whole request.
 #[derive(Debug, Drop)]
 pub struct Request {
     /// Its method, as it was sent.
     pub method: Vec<u8>,
-    /// Its target: mostly a path and a query.
+    /// Its target: usually a path and a query.
     pub target: Vec<u8>,
-    /// Whether its body has a content coding (RFC 9110, section 8.4) other than `identity`. None is
-    /// undone here.
+    /// Whether its body has a content coding (RFC 9110, section 8.4) other than `identity`. No
+    /// coding is undone here.
     pub is_encoded: bool,
     /// Its body, without the framing of chunks.
     pub body: Vec<u8>,

@@ -15,7 +15,7 @@ pub(crate) const MAX_UNREAD: usize = 64 * 1024;
 
 const _: () = prove!(MAX_UNREAD == 65_536);
 
-/// A buffer of at most this many bytes that has more room than this gives it back.
+/// A buffer that holds at most this many bytes but has more room than this gives its room back.
 const KEPT_ROOM: usize = 4 * 1024;
 
 /// Gives back the room of a buffer that holds little in a large block. If there is no memory for
@@ -23,7 +23,7 @@ const KEPT_ROOM: usize = 4 * 1024;
 pub(crate) fn release(alloc: Global, buffer: &mut BytesMut)
     ensures { buffer.new.items ≡ buffer.old.items }
 {
-    // The bytes that were consumed count as room only once those behind them are moved there.
+    // The bytes that were consumed count as room only once those after them are moved there.
     if buffer.len() > KEPT_ROOM || !buffer.try_reclaim(KEPT_ROOM + 1) {
         return;
     }

@@ -1,4 +1,4 @@
-//! Cells as records of CSV.
+//! Cells as CSV records.
 ghost use Rattle.std.specs.Prelude.{◌≡◌, ◌++◌, ◌∷◌, OnOk};
 ghost use Rattle.std.specs.Fmt.{signed_decimal};
 ghost use Rattle.std.specs.List.{flat_map};
@@ -12,7 +12,7 @@ use rr_contrib::Mask;
 use rr_fetch::prefix_of;
 use std::alloc::{AllocError, Global};
 
-/// The numbers of a cell, but its mask.
+/// The numbers of a cell, except its mask.
 fn cell_numbers(cell: &CellRef<'_>) -> [i128; 10]
     ensures { result ≡ cell_numbers (seen_cell cell.now) }
 {
@@ -40,7 +40,7 @@ fn push_number(text: &mut Vec<u8>, number: i128) -> Result<(), AllocError>
     text.extend_from_slice(b",")
 }
 
-/// Adds numbers, with a comma behind each.
+/// Adds numbers, with a comma after each.
 fn push_numbers(text: &mut Vec<u8>, numbers: &[i128]) -> Result<(), AllocError>
     ensures { OnOk result (text.new.items ≡ text.old.items
         ++ flat_map number_text numbers.now) }

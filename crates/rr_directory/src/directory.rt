@@ -6,7 +6,7 @@ use std::alloc::{AllocError, AllocFailed, Global};
 use std::io::Read;
 use thiserror::Error;
 
-/// Why a call of a directory failed.
+/// Why a call to a directory failed.
 #[derive(Clone, Copy, Debug, PartialEq, Eq, Error)]
 pub enum DirectoryFault {
     /// It can't be listed, or a file isn't there or can't be opened.
@@ -37,7 +37,7 @@ impl<T: Drop> From<AllocFailed<T>> for DirectoryFault {
     }
 }
 
-/// A directory with the files of a node, which is read.
+/// A directory with a node's files, to be read.
 ///
 /// Contracts see it as the names and the bytes of its files, where these are known.
 pub trait Directory {

@@ -11,7 +11,7 @@ use std::alloc::{AllocError, AllocFailed};
 use std::fmt;
 use thiserror::Error;
 
-/// Why a file isn't one that a node starts from: the first fault of it.
+/// Why a node doesn't start from a file: the file's first fault.
 #[derive(Clone, Copy, Debug, PartialEq, Eq, Error)]
 pub enum FileFault {
     /// It can't be opened or read.
@@ -20,9 +20,9 @@ pub enum FileFault {
     BadHeader(JournalFault),
     /// Its name and its header have different offsets.
     Misnamed,
-    /// It is of another journal than the files before it.
+    /// It is of a journal other than that of the files before it.
     OtherJournal,
-    /// No file has what the journal has from this offset on: the next one begins behind it.
+    /// No file has what the journal has from this offset on: the next one begins after it.
     FileMissing(u64),
     /// It doesn't begin where the file before it ends: at another digest, or before its end.
     NotChained,
@@ -39,7 +39,7 @@ pub enum FileFault {
         /// What is wrong with the next record.
         fault: JournalFault,
     },
-    /// The checkpoint doesn't have its end, or another number of cells than that states.
+    /// The checkpoint lacks its end, or has another number of cells than that states.
     NotWhole,
     /// Memory ran out.
     Memory,

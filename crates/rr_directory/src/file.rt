@@ -20,7 +20,7 @@ use rr_schema::Schema;
 use std::alloc::Global;
 use std::io::Read;
 
-/// A file that is read next.
+/// The file to read next.
 #[derive(Clone, Copy)]
 pub(crate) struct NextFile {
     pub(crate) name: FileName,
@@ -28,7 +28,7 @@ pub(crate) struct NextFile {
     pub(crate) is_last: bool,
 }
 
-/// Takes the records of a file that begins at a place, and answers the place behind them and why no
+/// Takes the records of a file that begins at a place, and returns the place after them and why no
 /// more follow.
 pub(crate) fn replay_file<A: Cells, R: Read>(
     alloc: Global,
@@ -68,8 +68,8 @@ fn take_checkpoint<A: Cells, R: Read>(
     check_checkpoint(stop, found.is_whole(), bytes_before(schema, begins, &end))
 }
 
-/// Takes a file of the journal that begins at a place and has so many bytes, and answers the place
-/// where it ends and how many bytes of a torn tail it has.
+/// Takes a file of the journal that begins at a place and has `len` bytes, and returns the place
+/// where it ends and the length of its torn tail.
 fn take_journal<A: Cells, R: Read>(
     alloc: Global,
     input: &mut Counted<R>,
@@ -93,7 +93,7 @@ fn take_journal<A: Cells, R: Read>(
     Ok((end, torn_len(stop, len, at)))
 }
 
-/// Reads a file into the replica, behind what was read so far.
+/// Reads a file into the replica, after what was read so far.
 pub(crate) fn read_file<A: Cells, D: Directory>(
     alloc: Global,
     directory: &D,

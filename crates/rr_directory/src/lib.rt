@@ -1,11 +1,11 @@
-//! What stands in a node's data directory, and a replica from it.
+//! The contents of a node's data directory, and a replica from them.
 //!
 //! A directory has files of the node's journal and checkpoints, each with an offset of the journal
-//! in its name ([`FileName`]); other files are none of a node's. [`start_of`] says which of them a
-//! start reads, by their names alone, and which are needless. [`recover`] reads these in order into
+//! in its name ([`FileName`]); other files aren't a node's. [`start_of`] says by their names alone
+//! which of them a start reads, and which are needless. [`recover`] reads the former in order into
 //! a replica of a new origin, over a [`Directory`], by [`rr_recovery::replay`]: each file begins
-//! where the one before it ends, by the cursor in its header, and the journal's last file alone may
-//! end in a torn tail. The first file that a node doesn't start from is named, and why ([`Refusal`]).
+//! where the one before it ends, by the cursor in its header, and only the journal's last file may
+//! end in a torn tail. [`Refusal`] names the first file that a node doesn't start from, and why.
 //!
 //! ```text
 //! names ── start_of ──> checkpoint, journal, journal .. ── recover ──> replica, Recovered
@@ -13,11 +13,11 @@
 //! ```
 //!
 //! Before that, [`last_origin`] goes through the journal's files among these, so that a node can
-//! choose an origin that was never used. For an operator [`survey`] reads a file by itself, under the
-//! schema that [`schema_in`] finds in a header; [`push_report`], [`push_verdict`] and [`push_cell`]
-//! say in a line each what a file has, whether the files join, and a cell.
+//! choose an origin that was never used. For an operator, [`survey`] reads a file by itself, under
+//! the schema that [`schema_in`] finds in a header; [`push_report`], [`push_verdict`] and
+//! [`push_cell`] add a line each: what a file has, whether the files join, and a cell.
 //!
-//! In `specs/` what files make of a replica is a function of their bytes, file after file
+//! In `specs/` what files make of a replica is a function of their bytes, file by file
 //! (`Reading.antt`).
 #![tactic(auto)]
 

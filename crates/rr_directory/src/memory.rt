@@ -1,4 +1,4 @@
-//! A directory over memory.
+//! A directory in memory.
 ghost use Rattle.std.specs.Prelude.{◌≡◌, IfOk, IfSome, length, map, option_map};
 ghost use Rattle.rr_directory.specs.Memory.{file_named, has_name, known_file};
 
@@ -7,7 +7,7 @@ use crate::name::FileName;
 use std::alloc::{AllocError, Global};
 use std::marker::Model;
 
-/// A file over memory.
+/// A file in memory.
 #[derive(Clone, Copy, Debug)]
 pub struct MemoryFile<'a> {
     /// Its name.
@@ -16,7 +16,7 @@ pub struct MemoryFile<'a> {
     pub bytes: &'a [u8],
 }
 
-/// A directory over memory, which tells its files: no other can be opened.
+/// A directory in memory, which lists its files: no other can be opened.
 #[derive(Debug, Drop)]
 pub struct MemoryDirectory<'a> {
     files: &'a [MemoryFile<'a>],
@@ -42,7 +42,7 @@ fn has_name(name: FileName, other: FileName) -> bool
     }
 }
 
-/// The first file of a name.
+/// The first file with this name.
 fn file_named<'a>(files: &[MemoryFile<'a>], name: FileName) -> Option<MemoryFile<'a>>
     ensures { option_map known_file result ≡ file_named (map known_file files.now) name }
 {

@@ -11,10 +11,10 @@ const JOURNAL: &[u8] = b"journal-";
 /// What the name of a checkpoint begins with.
 const CHECKPOINT: &[u8] = b"checkpoint-";
 
-/// What both end in.
+/// What both end with.
 const ENDING: &[u8] = b".rrj";
 
-/// How many digits an offset has in a name: with as many, names sort as offsets do.
+/// How many digits an offset has in a name: with this many, names sort as offsets do.
 const DIGITS: usize = 20;
 
 const _: () = prove!(DIGITS == 20);
@@ -28,7 +28,7 @@ pub enum FileName {
     Checkpoint(u64),
 }
 
-/// Adds so many decimal digits of a number, with leading zeros.
+/// Adds the last `count` decimal digits of a number, with leading zeros.
 fn push_digits(bytes: &mut Vec<u8>, count: usize, number: u64) -> Result<(), AllocError>
     ensures { OnOk result (bytes.new.items ≡ bytes.old.items ++ digits_of count number) }
 {
@@ -47,7 +47,7 @@ fn after<'a>(piece: &[u8], bytes: &'a [u8]) -> Option<&'a [u8]>
     bytes.strip_prefix(piece)
 }
 
-/// The offset that a text writes in digits, if these and the ending are all of it.
+/// The offset that a text gives in digits, if these and the ending are all of it.
 fn offset_of(text: &[u8]) -> Option<u64>
     ensures { IsOffsetText text.now result }
 {
@@ -62,7 +62,7 @@ fn offset_of(text: &[u8]) -> Option<u64>
 }
 
 impl FileName {
-    /// The name that these bytes are, if they are one: every other file is none of a node's.
+    /// The name with these bytes, if they are one: any other file isn't a node's.
     pub fn parse(bytes: &[u8]) -> Option<FileName>
         ensures { IsName bytes.now result }
     {
@@ -73,8 +73,8 @@ impl FileName {
         offset_of(rest).map(FileName::Checkpoint)
     }
 
-    /// The offset of the journal at which the file begins, or from which on the journal is read
-    /// after it.
+    /// The offset of the journal at which the file begins, or from which the journal is read after
+    /// it.
     pub fn offset(&self) -> u64
         ensures { result ≡ offset_of self.now }
     {

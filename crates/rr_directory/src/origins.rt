@@ -10,7 +10,7 @@ use rr_io::Counted;
 use rr_schema::{Origin, Schema};
 use std::alloc::Global;
 
-/// The later of two origins, where there are two.
+/// The later of two origins, if there are two.
 fn later(origin: Option<Origin>, before: Option<Origin>) -> Option<Origin>
     ensures { result ≡ later origin before }
 {
@@ -20,8 +20,8 @@ fn later(origin: Option<Origin>, before: Option<Origin>) -> Option<Origin>
     }
 }
 
-/// The origin of the last record of one in a file of the journal; the one before it, where the file
-/// has none.
+/// The origin of the last record of an origin in a file of the journal, or `before` if the file has
+/// none.
 fn origin_in_journal<D: Directory>(
     alloc: Global,
     directory: &D,
@@ -38,7 +38,7 @@ fn origin_in_journal<D: Directory>(
     Ok(later(origin, before))
 }
 
-/// The origin of a file's last record of one; the one before it, where the file has none, as a
+/// The origin of a file's last record of an origin, or `before` if the file has none, as a
 /// checkpoint hasn't.
 fn origin_in<D: Directory>(
     alloc: Global,
@@ -56,14 +56,15 @@ fn origin_in<D: Directory>(
     }
 }
 
-/// The origin of the last record of one in the journal's files, of files as
-/// [`start_of`](crate::start_of) gives them, so that a node can choose a new one before it recovers.
-/// A checkpoint isn't opened: origins are recorded in the journal alone, and the file that begins
-/// where a checkpoint does has the one that was written under then. Cells aren't looked at, nor is
-/// whether the files join; [`recover`](crate::recover) refuses an origin that any record or cell has.
+/// The origin of the last record of an origin in the journal's files, among files as
+/// [`start_of`](crate::start_of) gives them, so that a node can choose a new one before it
+/// recovers. A checkpoint isn't opened: origins are recorded only in the journal, and the file that
+/// begins where a checkpoint does has the one that was written under then. Cells aren't checked,
+/// nor is whether the files join; [`recover`](crate::recover) refuses an origin that any record or
+/// cell has.
 ///
 /// Refused at the first file of the journal whose header is refused, or that has a record of an
-/// origin which means none. The cost is linear in the bytes of the journal's files.
+/// origin that means none. The cost is linear in the bytes of the journal's files.
 pub fn last_origin<D: Directory>(
     alloc: Global,
     directory: &D,

@@ -36,7 +36,7 @@ fn named_place(name: FileName, begins: Result<Cursor, JournalFault>) -> Result<C
     }
 }
 
-/// Reads the header of a file, and answers the place at which it begins.
+/// Reads the header of a file, and returns the place at which the file begins.
 pub(crate) fn place_from<R: Read>(
     alloc: Global,
     input: &mut Counted<R>,
@@ -50,7 +50,7 @@ pub(crate) fn place_from<R: Read>(
     named_place(name, begins)
 }
 
-/// Where the journal's next file has to begin, if it was read up to `reached`.
+/// Where the journal's next file must begin, if the journal was read up to `reached`.
 pub(crate) fn due_place(reached: Option<Cursor>, begins: &Cursor) -> Cursor
     ensures { result ≡ due_place reached begins.now }
 {
@@ -76,7 +76,7 @@ pub(crate) fn check_join(due: &Cursor, begins: &Cursor) -> Result<(), FileFault>
     Ok(())
 }
 
-/// How many bytes of a file that begins at one place stand before another.
+/// How many bytes of a file that begins at one place come before another.
 pub(crate) fn bytes_before(schema: &Schema, begins: &Cursor, place: &Cursor) -> u64
     ensures { result ≡ bytes_before schema.now begins.now place.now }
 {

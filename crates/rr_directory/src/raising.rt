@@ -1,4 +1,4 @@
-//! A replica under a schema that has one archive more.
+//! A replica under a schema with one more archive.
 ghost use Rattle.std.specs.Prelude.{◌≡◌, ◌<◌, IfOk, OnOk};
 ghost use Rattle.std.specs.FinMap.{entries};
 ghost use Rattle.rr_schema.specs.Added.{HasAdded};
@@ -16,7 +16,7 @@ use rr_replica::{CellWalk, Replica};
 use rr_text::limits::MAX_ARCHIVES;
 use std::alloc::{AllocError, Global};
 
-/// The number that an archive has once there is one more, with the number `added`.
+/// The number that an archive has once one more is added, with the number `added`.
 fn raised(added: u8, archive: u8) -> u8
     requires { archive < MAX_ARCHIVES }
     ensures { result ≡ raised (Archive added) archive }
@@ -28,7 +28,7 @@ fn raised(added: u8, archive: u8) -> u8
     }
 }
 
-/// A cell of before there was the archive `added`, with the number that its own archive has since.
+/// A cell from before the archive `added`, with the number that its own archive has since.
 fn raised_cell(added: u8, cell: &CellRef<'_>) -> Result<Cell, AllocError>
     requires { cell.now.archive < MAX_ARCHIVES }
     ensures { IfOk result (λ c. owned_cell c ≡ raised_cell (Archive added) (seen_cell cell.now)) }
@@ -42,7 +42,7 @@ fn raised_cell(added: u8, cell: &CellRef<'_>) -> Result<Cell, AllocError>
     })
 }
 
-/// Joins a cell of before there was the archive `added`.
+/// Joins a cell from before the archive `added`.
 fn join_one<A: Cells>(
     added: u8,
     cell: &CellRef<'_>,
@@ -59,12 +59,12 @@ fn join_one<A: Cells>(
     replica.join_cell(&cell)
 }
 
-/// Joins all cells of a replica into one whose schema has one archive more, that with the number
-/// `added`. That archive has none of them; the numbers of those behind it are higher by one than in
-/// the older replica.
+/// Joins all cells of a replica into one whose schema has one more archive, with the number
+/// `added`. That archive has none of the cells; the numbers of the archives after it are higher by
+/// one than in the older replica.
 ///
-/// If memory runs out, the first of the cells are joined. The cost is that of
-/// [`Replica::join_cell`] for each cell.
+/// If memory runs out, a prefix of the cells is joined. The cost is that of [`Replica::join_cell`]
+/// for each cell.
 pub fn join_raised<A: Cells>(
     alloc: Global,
     older: &Replica<A>,
@@ -76,7 +76,7 @@ pub fn join_raised<A: Cells>(
         ≡ with_raised added (replica_state replica.old) (entries older.now.cells)) }
     ensures schema { replica.new.schema ≡ replica.old.schema }
 {
-    // The proof needs that the archives are few, which this ensures.
+    // The proof needs the archives to be few, which this ensures.
     let _archives = older.schema().archives();
     let mut walk = CellWalk::new(alloc, older);
     let mut next = older.cell_at(0);

@@ -20,9 +20,9 @@ use std::alloc::{AllocError, Global};
 pub struct Recovered {
     /// What they have besides cells.
     pub found: Found,
-    /// Where the journal ends, and is gone on with; none where no file was read.
+    /// Where the journal ends and is continued; none if no file was read.
     pub end: Option<Cursor>,
-    /// How many bytes of a torn tail the last file has, which are to be cut off.
+    /// The length in bytes of the last file's torn tail, which is to be cut off.
     pub torn: u64,
 }
 
@@ -39,7 +39,7 @@ impl Recovered {
     }
 }
 
-/// An empty replica of an origin, into which files can be read that name this schema.
+/// An empty replica of an origin, into which files that name this schema can be read.
 pub fn empty_replica<A: Cells>(
     alloc: Global,
     schema: &Schema,
@@ -51,14 +51,14 @@ pub fn empty_replica<A: Cells>(
     Replica::new(alloc, schema, origin)
 }
 
-/// Reads files, in this order, into a replica: a checkpoint, if there is one, and then the journal's
-/// files, as [`start_of`](crate::start_of) gives them. Each has to name the schema of the replica
-/// and to begin where the one before it ends; a checkpoint has to be whole, and the journal's last
-/// file alone may have a torn tail.
+/// Reads files, in this order, into a replica: a checkpoint, if there is one, and then the
+/// journal's files, as [`start_of`](crate::start_of) gives them. Each must name the schema of the
+/// replica and begin where the one before it ends; a checkpoint must be whole, and only the
+/// journal's last file may have a torn tail.
 ///
-/// Of the files in order the first that a node doesn't start from is refused before anything behind
-/// it is read. Then some cells are joined, and the replica is of no further use. The cost is linear
-/// in the bytes, and that of joining the cells; one record is in memory at a time.
+/// The first file, in order, that a node doesn't start from is refused before anything after it is
+/// read. Some cells are joined then, and the replica is of no further use. The cost is linear in
+/// the bytes, plus that of joining the cells; one record is in memory at a time.
 pub fn recover<A: Cells, D: Directory>(
     alloc: Global,
     directory: &D,

@@ -1,4 +1,4 @@
-//! What is said of a directory: a line a file, and whether the files join up.
+//! The report on a directory: a line for each file, and whether the files join.
 ghost use Rattle.std.specs.Prelude.{◌≡◌, ◌++◌, OnOk, option_map};
 ghost use Rattle.std.specs.Fmt.{decimal};
 ghost use Rattle.rr_directory.specs.Report.{ending_of, ending_text, report_text, verdict_text};
@@ -14,16 +14,16 @@ use std::alloc::{AllocError, Global};
 pub enum FileEnding {
     /// With its last record.
     End,
-    /// With so many bytes of a torn tail.
+    /// With a torn tail of this many bytes.
     Torn(u64),
     /// It is damaged from this byte on.
     Damaged(u64),
-    /// A record of it, its header or the whole of it is refused.
+    /// A record of it, its header, or all of it is refused.
     Refused(FileFault),
 }
 
 impl FileEnding {
-    /// The ending of a file of a length whose reading stopped so at a byte.
+    /// The ending of a file of `len` bytes whose reading stopped like this at the byte `at`.
     pub fn of_stop(stop: Stop, len: u64, at: u64) -> FileEnding
         ensures { result ≡ ending_of stop len at }
     {
@@ -35,7 +35,7 @@ impl FileEnding {
     }
 }
 
-/// What is said of a file that is read by itself.
+/// The report on a file that is read by itself.
 #[derive(Clone, Copy, Debug, PartialEq, Eq)]
 pub struct FileReport {
     /// Its name.

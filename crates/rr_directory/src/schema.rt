@@ -11,13 +11,13 @@ use rr_schema::{ArchiveSpec, Schema, SchemaFault};
 use std::alloc::{AllocError, Global};
 use std::io::Read;
 
-/// How many bytes a header has before its schema, whose length the last two are.
+/// How many bytes of a header come before its schema; the last two are the schema's length.
 const BEFORE_LEN: usize = 8;
 
 /// How many bytes an archive has.
 const ARCHIVE_LEN: usize = 9;
 
-/// The archive of these bytes; of another number of bytes one that no schema has.
+/// The archive of these bytes; for any other number of bytes, one that no schema has.
 fn archive_of(bytes: &[u8]) -> ArchiveSpec {
     let [steps, r0, r1, r2, r3, n0, n1, d0, d1] = bytes else {
         return ArchiveSpec {
@@ -35,7 +35,7 @@ fn archive_of(bytes: &[u8]) -> ArchiveSpec {
     }
 }
 
-/// The archives of bytes.
+/// The archives of these bytes.
 fn archives_of(alloc: Global, bytes: &[u8]) -> Result<Vec<ArchiveSpec>, AllocError> {
     let mut archives = Vec::new(alloc);
     let mut left = bytes;
@@ -47,7 +47,7 @@ fn archives_of(alloc: Global, bytes: &[u8]) -> Result<Vec<ArchiveSpec>, AllocErr
     Ok(archives)
 }
 
-/// The schema of these bytes, if they are one's.
+/// The schema with these bytes, if there is one.
 pub fn schema_of(alloc: Global, bytes: &[u8]) -> Result<Option<Schema>, AllocError>
     ensures { IfOk result (λ found. IfSome found (λ s. bytes.now ≡ schema_bytes s)) }
 {
@@ -63,8 +63,8 @@ pub fn schema_of(alloc: Global, bytes: &[u8]) -> Result<Option<Schema>, AllocErr
     }
 }
 
-/// The bytes of the schema that the header at the beginning of an input names; too few of them where
-/// the input ends before.
+/// The bytes of the schema that the header at the beginning of an input names; too few if the input
+/// ends early.
 fn schema_bytes_from<R: Read>(alloc: Global, input: &mut Counted<R>) -> Result<Vec<u8>, FileFault> {
     let mut before = [0u8; BEFORE_LEN];
     fill(input, &mut before)?;
@@ -77,7 +77,7 @@ fn schema_bytes_from<R: Read>(alloc: Global, input: &mut Counted<R>) -> Result<V
 }
 
 /// The schema that the header of a file names, if it names one, whatever else the header has: so a
-/// directory is read without a configuration. Refused as `ReadFailed` and `Memory`.
+/// directory can be read without a configuration. Refused as `ReadFailed` and `Memory`.
 pub fn schema_in<D: Directory>(
     alloc: Global,
     directory: &D,

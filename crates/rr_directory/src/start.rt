@@ -5,7 +5,7 @@ ghost use Rattle.rr_directory.specs.Start.{IsNewest, IsStart, checkpoint_offset,
 use crate::name::FileName;
 use std::alloc::{AllocError, Global};
 
-/// The files of a directory, by what a start has to do with them.
+/// The files of a directory, by what a start does with them.
 #[derive(Debug, Drop)]
 pub struct Start {
     /// Those that are read, in this order: the newest checkpoint, if there is one, and the
@@ -26,7 +26,7 @@ impl FileName {
         }
     }
 
-    /// The offset of a file of the journal that begins at an offset or behind it.
+    /// The offset of a file of the journal that begins at `from` or after it.
     fn journal_from(self, from: u64) -> Option<u64>
         ensures { result ≡ journal_from from self }
     {
@@ -37,7 +37,7 @@ impl FileName {
     }
 }
 
-/// The greater of two offsets, or the one that there is.
+/// The greater of two offsets, or the only one.
 fn greater(one: Option<u64>, other: Option<u64>) -> Option<u64>
     ensures { result ≡ greater one other }
 {
@@ -59,7 +59,7 @@ fn newest(names: &[FileName]) -> Option<u64>
     newest
 }
 
-/// The offsets of the journal's files that begin at an offset or behind it, as they come.
+/// The offsets of the journal's files that begin at `from` or after it, as they come.
 fn journals_from(alloc: Global, names: &[FileName], from: u64) -> Result<Vec<u64>, AllocError>
     ensures { IfOk result (λ offsets. offsets.items ≡ names_from from names.now) }
 {
@@ -98,9 +98,9 @@ fn names_of(
     Ok(files)
 }
 
-/// Which files of a directory a start reads, by the names of all: the newest checkpoint, if there
-/// is one, and then the journal's files from its offset on, in order, of which none is passed over.
-/// The cost is that of sorting them.
+/// Which files of a directory a start reads, given the names of all: the newest checkpoint, if
+/// there is one, and then all of the journal's files from its offset on, in order. The cost is that
+/// of sorting them.
 pub fn start_of(alloc: Global, names: &[FileName]) -> Result<Start, AllocError>
     ensures { IfOk result (IsStart names.now) }
 {

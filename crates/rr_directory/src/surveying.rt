@@ -16,7 +16,7 @@ use rr_replica::Replica;
 use rr_schema::Schema;
 use std::alloc::Global;
 
-/// How a file ends, whose records are taken into a replica.
+/// Takes the records of a file into a replica, and returns how the file ends.
 fn ending_in<A: Cells, D: Directory>(
     alloc: Global,
     directory: &D,
@@ -37,8 +37,8 @@ fn ending_in<A: Cells, D: Directory>(
     Ok(FileEnding::of_stop(stop, len, bytes_before(schema, &begins, &end)))
 }
 
-/// What is to be said of a file by itself: its records are taken into a replica, as
-/// [`recover`](crate::recover) takes them, but it needn't join another, nor be whole.
+/// The report of a file by itself: its records are taken into a replica, as
+/// [`recover`](crate::recover) takes them, but it needn't join another file, nor be whole.
 pub fn survey<A: Cells, D: Directory>(
     alloc: Global,
     directory: &D,

@@ -1,4 +1,4 @@
-//! A clock over memory.
+//! A clock in memory.
 
 ghost use Rattle.std.specs.Prelude.{◌≡◌};
 ghost use Rattle.rr_fakes.specs.Clock.{MomentsState, moment_at};
@@ -6,14 +6,14 @@ ghost use Rattle.rr_fakes.specs.Clock.{MomentsState, moment_at};
 use rr_host::Clock;
 use std::marker::Model;
 
-/// A clock over memory: it gives its moments in turn, and then the last one again and again. With
-/// no moments it gives 0.
+/// A clock in memory: it gives its moments in order, and then the last one over and over. With no
+/// moments it gives 0.
 #[derive(Drop)]
 pub struct Moments {
     moments: Vec<i64>,
-    /// How many times it was asked. The number stops at its greatest value.
+    /// How many times it was asked. The number saturates.
     asked: usize,
-    /// How many times it was renewed. The number stops at its greatest value.
+    /// How many times it was renewed. The number saturates.
     renewals: u64,
 }
 

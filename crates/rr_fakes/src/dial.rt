@@ -1,4 +1,4 @@
-//! Peers over memory.
+//! Peers in memory.
 
 ghost use Rattle.std.specs.Prelude.{◌≡◌, Some, [], IfOk, IfSome, map, option_map};
 ghost use Rattle.rr_fakes.specs.Dial.{NotesOnly, noted_call, peer_of, peer_view};
@@ -9,30 +9,30 @@ use rr_io::Counted;
 use std::alloc::{AllocError, Global};
 use std::marker::Model;
 
-/// What a call of a prepared dial was.
+/// A call of a prepared dial.
 #[derive(Drop)]
 pub(crate) enum Entry<'a> {
-    /// The peer of this address is due.
+    /// The peer at this address is due.
     Due(&'a str),
-    /// The peer of this address was reached, which sends these bytes.
+    /// The peer at this address was reached, and sends these bytes.
     Reached(&'a str, &'a [u8]),
-    /// The peer of this address can't be reached.
+    /// The peer at this address can't be reached.
     Unreached(&'a str),
     /// A stream was handed back.
     HandedBack(Counted<&'a [u8]>, Counted<Vec<u8>>),
 }
 
-/// A peer that is prepared.
+/// A prepared peer.
 #[derive(Clone, Copy)]
 pub struct PreparedPeer<'a> {
     /// Its address.
     pub address: &'a str,
-    /// What it sends to each that reaches it; where this is missing, it can't be reached.
+    /// What it sends to each that reaches it; if absent, it can't be reached.
     pub sends: Option<&'a [u8]>,
 }
 
-/// Reaches peers that are prepared, and no other; each is due whenever it is asked. What was sent
-/// to each is kept.
+/// Reaches prepared peers, and no others; each is due whenever it is asked. What was sent to each
+/// is kept.
 ///
 /// Its calls are known as long as there is memory to note them; [`PreparedDial::new`] makes room
 /// for some. They aren't known after a call to an address that no peer has.
@@ -54,7 +54,7 @@ impl<'a> Model for PreparedDial<'a> {
 }
 
 impl<'a> PreparedDial<'a> {
-    /// Reaches these peers, with room for so many calls.
+    /// Reaches these peers, with room for this many calls.
     pub fn new(
         alloc: Global,
         peers: &'a [PreparedPeer<'a>],
@@ -88,7 +88,7 @@ impl<'a> PreparedDial<'a> {
     }
 }
 
-/// The first peer of an address.
+/// The first peer at an address.
 fn peer_of<'a>(peers: &'a [PreparedPeer<'a>], address: &str) -> Option<PreparedPeer<'a>>
     ensures first { option_map peer_view result ≡ peer_of (map peer_view peers.now) address.now }
     ensures named { IfSome result (λ peer. peer.address.now ≡ address.now) }

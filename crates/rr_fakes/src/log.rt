@@ -1,4 +1,4 @@
-//! Logs of calls over memory.
+//! Logs of calls in memory.
 
 ghost use Rattle.std.specs.Prelude.{◌≡◌, ◌++◌, [], Some, None, List, IfOk, IfSome, option_map, option_to_list};
 ghost use Rattle.rr_fakes.specs.Log.{HasNoted};
@@ -6,8 +6,8 @@ ghost use Rattle.rr_fakes.specs.Log.{HasNoted};
 use std::alloc::{AllocError, Global};
 use std::marker::Model;
 
-/// A log of calls, in room that is made beforehand. Past that it is known as long as there is
-/// memory to note each call.
+/// A log of calls, with room made beforehand. Past that it is known as long as there is memory to
+/// note each call.
 #[derive(Drop)]
 pub struct CallLog<C> {
     calls: Vec<C>,
@@ -29,7 +29,7 @@ impl<C> Model for CallLog<C> {
 }
 
 impl<C: Drop> CallLog<C> {
-    /// No call yet, and room for so many.
+    /// A log of no calls, with room for this many.
     pub fn new(alloc: Global, room: usize) -> Result<CallLog<C>, AllocError>
         ensures { IfOk result (λ log. log ≡ record { calls = Some []; room = room }) }
     {
@@ -48,7 +48,7 @@ impl<C: Drop> CallLog<C> {
         }
     }
 
-    /// Forgets all calls, as one of them can't be noted.
+    /// Forgets all calls, since one of them can't be noted.
     pub fn forget(&mut self)
         ensures forgotten { self.new.calls ≡ None }
         ensures room { self.new.room ≡ self.old.room }

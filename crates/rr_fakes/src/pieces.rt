@@ -16,7 +16,7 @@ pub fn in_pieces(text: &[u8], size: usize) -> Counted<Pieces<'_>> {
     Counted::new(Pieces { rest: text, size })
 }
 
-/// A counted reader that gives at most `size` bytes of a text at each call but the one after
+/// A counted reader that gives at most `size` bytes of a text at each call except the one after
 /// `calls` calls, which fails.
 pub fn failing_after(text: &[u8], size: usize, calls: u64) -> Counted<Failing<Pieces<'_>>> {
     Counted::new(Failing::new(Pieces { rest: text, size }, calls))

@@ -1,13 +1,13 @@
-//! Growths that are refused.
+//! Refused growths.
 //!
-//! What a call takes comes from the C library's heap, and no allocator of a test's own can be
-//! handed in. So who refuses stands between the built program and the C library (`tools/refuse.c`),
-//! and is asked by blocks of 2^62 bytes and more, which are never there. Where nobody stands there
-//! these calls do nothing, and no growth is refused.
+//! What a call takes comes from the C library's heap, and a test can't hand in an allocator of its
+//! own. So what refuses stands between the built program and the C library (`tools/refuse.c`), and
+//! is asked by blocks of 2^62 bytes and more, which are never there. If nothing stands there, these
+//! calls do nothing, and no growth is refused.
 
 use std::alloc::Global;
 
-/// From this size on the size of a block says which growth to refuse.
+/// From this size on, the size of a block says which growth to refuse.
 const REFUSE: usize = 1 << 62;
 
 /// The size of a block that asks whether one was refused.
@@ -18,17 +18,17 @@ fn ask(alloc: Global, size: usize) {
     let _refused = Vec::<u8>::with_capacity(alloc, size);
 }
 
-/// Asks that of the growths from here on the one after `growths` others is refused.
+/// Asks that the growth after the next `growths` ones be refused.
 pub fn refuse_after(alloc: Global, growths: u32) {
     ask(alloc, REFUSE + 1 + growths as usize);
 }
 
-/// Asks that no growth is refused from here on.
+/// Asks that no growth be refused from here on.
 pub fn refuse_none(alloc: Global) {
     ask(alloc, REFUSE);
 }
 
-/// Whether a growth was refused since this was asked last. From here on none is.
+/// Whether a growth was refused since this was last asked. From here on none is.
 pub fn has_refused(alloc: Global) -> bool {
     ask(alloc, HAS_REFUSED);
     Vec::<u8>::with_capacity(alloc, 1).is_err()

@@ -9,7 +9,7 @@ use std::io::Write;
 const BEFOREHAND: usize = 1 << 16;
 
 /// A writer that takes at most `size` bytes at each call, has room for `left` more, and takes none
-/// after them.
+/// after that.
 #[derive(Drop)]
 pub struct Room {
     written: Vec<u8>,
@@ -26,9 +26,9 @@ pub fn with_room(alloc: Global, left: usize) -> Counted<Room> {
     })
 }
 
-/// A counted writer with room for `left` bytes that takes at most `size` bytes at each call but the
-/// one after `calls` calls, which fails. It takes its memory beforehand, so that none is refused to
-/// it.
+/// A counted writer with room for `left` bytes that takes at most `size` bytes at each call except
+/// the one after `calls` calls, which fails. It takes its memory beforehand, so that none is
+/// refused to it.
 pub fn failing_room(
     alloc: Global,
     size: usize,

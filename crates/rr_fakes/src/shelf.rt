@@ -1,4 +1,4 @@
-//! A shelf over memory.
+//! A shelf in memory.
 
 ghost use Rattle.std.specs.Prelude.{◌≡◌, ◌+◌, Some, [], IfOk, map, option_map};
 ghost use Rattle.rr_fakes.specs.Shelf.{noted_call, opening_call, Notes};
@@ -21,14 +21,14 @@ pub enum PreparedOpening {
     Failed,
 }
 
-/// What a call of a prepared shelf was.
+/// A call of a prepared shelf.
 #[derive(Drop)]
 pub enum ShelfNote {
     /// It was told the report of a connection, or that there is none.
     LinesTaken(Option<Report>),
-    /// It was told that the peer of this number has cells of the keeper's origin.
+    /// It was told that the peer with this number has cells of the keeper's origin.
     OwnOrigin(usize),
-    /// It was told that the pull of the peer of this number failed.
+    /// It was told that the pull of the peer with this number failed.
     PeerFailed(usize, NodeFault),
     /// It was told how many samples no archive kept.
     PastHorizon(u64),
@@ -44,8 +44,8 @@ pub enum ShelfNote {
     SaveFailed(SaveFault),
 }
 
-/// Keeps snapshots in memory: for each that is saved it opens what is prepared, and once all of
-/// that is used it wants none. It always wants the number of cells.
+/// Keeps snapshots in memory: for each save it opens what is prepared, and once all of that is used
+/// it wants none. It always wants the number of cells.
 ///
 /// Its calls are known as long as there is memory to note them; [`PreparedShelf::new`] makes room
 /// for some.
@@ -72,7 +72,7 @@ impl<'a> Model for PreparedShelf<'a> {
 }
 
 impl<'a> PreparedShelf<'a> {
-    /// A shelf that opens these in order, with room for so many calls.
+    /// A shelf that opens these in order, with room for this many calls.
     pub fn new(
         alloc: Global,
         openings: &'a [PreparedOpening],

@@ -1,4 +1,4 @@
-//! Connections over memory.
+//! Connections in memory.
 
 ghost use Rattle.std.specs.Prelude.{◌≡◌, IfOk, map, option_map};
 ghost use Rattle.rr_fakes.specs.Visits.{Notes, at_start, noted_call};
@@ -9,10 +9,10 @@ use rr_io::Counted;
 use std::alloc::{AllocError, Global};
 use std::marker::Model;
 
-/// What a call of prepared connections was.
+/// A call of prepared connections.
 #[derive(Drop)]
 pub(crate) enum Entry<'a> {
-    /// A connection of this input was given.
+    /// A connection with this input was given.
     Gave(&'a [u8]),
     /// It failed.
     Failed,
@@ -24,11 +24,11 @@ pub(crate) enum Entry<'a> {
     TookBack(Counted<&'a [u8]>, Counted<Vec<u8>>),
 }
 
-/// Connections that are prepared: the bytes that each brings, or none for one that fails. What each
-/// was answered is kept.
+/// Prepared connections: the bytes that each brings, or none for one that fails. What each was
+/// answered is kept.
 ///
 /// Its calls are known as long as there is memory to note them; [`Prepared::new`] makes room for
-/// three of each connection and one more.
+/// three for each connection and one more.
 #[derive(Drop)]
 pub struct Prepared<'a> {
     alloc: Global,
@@ -53,7 +53,7 @@ impl<'a> Model for Prepared<'a> {
 }
 
 impl<'a> Prepared<'a> {
-    /// Connections of these inputs, in order.
+    /// Connections with these inputs, in order.
     pub fn new(alloc: Global, inputs: &'a [Option<&'a [u8]>]) -> Result<Prepared<'a>, AllocError>
         ensures { IfOk result (λ p. p ≡ at_start
             (map (option_map (λ bytes. bytes.now)) inputs.now)) }

@@ -9,8 +9,8 @@ use std::rt::Files;
 use std::{fs, io};
 
 impl<R: Files> DataDirectory<'_, R> {
-    /// This many bytes of a file from one on, or nothing where the file isn't there any more. It fails
-    /// with `UnexpectedEof` where the file has fewer.
+    /// This many bytes of a file from an offset on, or nothing if the file is gone. Fails with
+    /// `UnexpectedEof` if the file has fewer.
     pub fn read_at(
         &self,
         alloc: Global,

@@ -1,4 +1,4 @@
-//! The data directory of a node that runs.
+//! The data directory of a running node.
 
 use crate::fault::OpenFault;
 use crate::folder::{BESIDE, beside_path, file_path, give_name, name_before, sync_folder};
@@ -16,7 +16,7 @@ use std::{fs, io};
 /// The file that is locked.
 const LOCK: &str = "lock";
 
-/// How many bytes of a checkpoint are put together before they are written by one call.
+/// How many bytes of a checkpoint are gathered for one write call.
 const PIECE: usize = 65_536;
 
 /// The data directory of a node.
@@ -26,14 +26,14 @@ pub struct DataDirectory<'a, R> {
     path: &'a str,
 }
 
-/// That no other process has a data directory, as long as this value lives.
+/// Keeps other processes out of a data directory, as long as this value lives.
 #[derive(Drop)]
 pub struct DirectoryLock<F> {
-    /// Open, so that it is locked.
+    /// Kept open, so that it stays locked.
     _file: F,
 }
 
-/// Makes a folder, if there is none, and puts its name to the disk.
+/// Makes a folder if there is none, and syncs its name to disk.
 fn make_folder<R: Files>(rt: &R, alloc: Global, path: &str) -> io::Result<()> {
     match fs::create_dir(rt, path) {
         Ok(()) => {
@@ -45,7 +45,7 @@ fn make_folder<R: Files>(rt: &R, alloc: Global, path: &str) -> io::Result<()> {
     }
 }
 
-/// Opens the file in a folder that is locked, and makes it, if there is none.
+/// Opens the file to be locked in a folder, and makes it if there is none.
 fn open_lock<R: Files>(rt: &R, alloc: Global, path: &str) -> io::Result<R::File> {
     let path = format!(in alloc; "{path}/{LOCK}")?;
     OpenOptions::new()
@@ -54,7 +54,7 @@ fn open_lock<R: Files>(rt: &R, alloc: Global, path: &str) -> io::Result<R::File>
         .open(rt, path.as_str())
 }
 
-/// The names in a folder that are a node's with this behind them.
+/// The names of a node's files in a folder that have this ending, without it.
 fn names_ending<R: Files>(
     rt: &R,
     alloc: Global,
@@ -77,7 +77,7 @@ fn names_ending<R: Files>(
     Ok(names)
 }
 
-/// Removes files beside that a crash left: none of them is whole, or has its name.
+/// Removes the files beside that a crash left, which aren't whole or never got their names.
 fn remove_left<R: Files>(rt: &R, alloc: Global, path: &str) -> io::Result<()> {
     for name in &names_ending(rt, alloc, path, BESIDE)? {
         let left = beside_path(alloc, path, *name)?;
@@ -86,7 +86,7 @@ fn remove_left<R: Files>(rt: &R, alloc: Global, path: &str) -> io::Result<()> {
     Ok(())
 }
 
-/// The fault of a call of the system that reads.
+/// The fault of a failed system call that reads.
 fn read_fault(error: &io::Error) -> DirectoryFault {
     if error.kind() == ErrorKind::OutOfMemory {
         DirectoryFault::Memory
@@ -96,11 +96,11 @@ fn read_fault(error: &io::Error) -> DirectoryFault {
 }
 
 impl<'a, R: Files> DataDirectory<'a, R> {
-    /// Opens the directory at a path, and makes it, if there is none. What a crash left half written
+    /// Opens the directory at a path, and makes it if there is none. What a crash left half written
     /// is removed.
     ///
-    /// Refused as `InUse` where another process has it. The lock is the system's, on the file `lock`:
-    /// a crash leaves the file, and it isn't locked then.
+    /// Refused as `InUse` if another process has it. The lock is the system's, on the file `lock`:
+    /// a crash leaves the file, but unlocked.
     pub fn open(
         rt: &'a R,
         alloc: Global,
@@ -133,11 +133,10 @@ impl<'a, R: Files> DataDirectory<'a, R> {
         self.path
     }
 
-    /// A new file of the journal, which begins at a place, with its header. No file of this name may
-    /// be there.
+    /// A new journal file that begins at a place, with its header. No file of this name may exist.
     ///
     /// It is written beside and synced, then gets its name, and the folder is synced. So a crash
-    /// leaves no file with a part of a header; and after this whatever is synced in the file is found
+    /// leaves no file with part of a header, and afterwards whatever is synced in the file is found
     /// again.
     pub fn create_journal(
         &self,
@@ -159,11 +158,11 @@ impl<'a, R: Files> DataDirectory<'a, R> {
         Ok(JournalFile::new(file, header.len() as u64))
     }
 
-    /// The last file of the journal, to go on behind what was read of it: the last bytes, which are a
-    /// torn tail, are cut off, and what is left is synced.
+    /// The last file of the journal, to go on after what was read of it: its last `torn` bytes,
+    /// which are a torn tail, are cut off, and the rest is synced.
     ///
-    /// It is synced also where nothing is torn: a process that was killed may leave bytes that were
-    /// read since, and that only the system's memory has.
+    /// It is synced even if nothing is torn: a killed process may leave bytes that have been read
+    /// since and that only the system's memory has.
     pub fn open_journal(
         &self,
         alloc: Global,
@@ -182,17 +181,17 @@ impl<'a, R: Files> DataDirectory<'a, R> {
         Ok(JournalFile::new(file, len))
     }
 
-    /// Where a checkpoint is written, after which the journal is read from an offset on. It is written
-    /// beside, so a crash leaves a file that no start reads, and that the next one removes.
+    /// A writer for a checkpoint, after which the journal is read from an offset on. It is written
+    /// beside, so a crash leaves a file that no start reads and that the next one removes.
     pub fn create_checkpoint(&self, alloc: Global, offset: u64) -> io::Result<BufWriter<R::File>> {
         let beside = beside_path(alloc, self.path, FileName::Checkpoint(offset))?;
         let file = fs::create(self.rt, beside.as_str())?;
         BufWriter::with_capacity(alloc, PIECE, file)
     }
 
-    /// Syncs a checkpoint that is written whole, and gives it its name. When this has succeeded, a
-    /// start reads it, and what stands before it in the journal may be removed; where it fails, or a
-    /// crash comes before, a start reads the last one and the journal.
+    /// Syncs a checkpoint that is written whole, and gives it its name. Once this succeeds, a start
+    /// reads it, and what comes before it in the journal may be removed; if this fails, or a crash
+    /// comes first, a start reads the last one and the journal.
     pub fn finish_checkpoint(
         &self,
         alloc: Global,
@@ -205,13 +204,13 @@ impl<'a, R: Files> DataDirectory<'a, R> {
         give_name(self.rt, alloc, self.path, FileName::Checkpoint(offset))
     }
 
-    /// Removes what was written of a checkpoint that isn't to be.
+    /// Removes what was written of an abandoned checkpoint.
     pub fn abandon_checkpoint(&self, alloc: Global, offset: u64) -> io::Result<()> {
         let beside = beside_path(alloc, self.path, FileName::Checkpoint(offset))?;
         fs::remove_file(self.rt, beside.as_str())
     }
 
-    /// Removes a file. After a crash it may be there again, and is as needless then.
+    /// Removes a file. After a crash it may be back, and is still needless.
     pub fn remove(&self, alloc: Global, name: FileName) -> io::Result<()> {
         let path = file_path(alloc, self.path, name)?;
         fs::remove_file(self.rt, path.as_str())

@@ -1,4 +1,4 @@
-//! The paths in a directory, and what is done with names there.
+//! Paths in a directory, and what is done with names there.
 
 use rr_directory::FileName;
 use std::alloc::{AllocError, Global};
@@ -7,7 +7,7 @@ use std::io::ErrorKind;
 use std::rt::Files;
 use std::{fs, io};
 
-/// What the name of a file ends in while it is written.
+/// The suffix of a file's name while it is written.
 pub(crate) const BESIDE: &str = ".new";
 
 /// The path of a file, with an ending.
@@ -41,12 +41,12 @@ pub(crate) fn beside_path(
     path_ending(alloc, folder, name, BESIDE)
 }
 
-/// The name that a text is, if it ends so.
+/// Reads a text as a file name followed by this ending.
 pub(crate) fn name_before(ending: &str, text: &[u8]) -> Option<FileName> {
     FileName::parse(text.strip_suffix(ending.as_bytes())?)
 }
 
-/// Puts the names in a folder to the disk. A file system that does this for no folder is passed over.
+/// Syncs the names in a folder to disk. A file system that does this for no folder is tolerated.
 pub(crate) fn sync_folder<R: Files>(rt: &R, alloc: Global, folder: &str) -> io::Result<()> {
     let path = format!(in alloc; "{folder}/.")?;
     let folder = fs::open(rt, path.as_str())?;
@@ -56,8 +56,8 @@ pub(crate) fn sync_folder<R: Files>(rt: &R, alloc: Global, folder: &str) -> io::
     }
 }
 
-/// Gives the file beside its name. The file is whole and synced, and after a crash one of the two
-/// names is there; when this has succeeded, the right one is.
+/// Gives the file beside its name. The file is whole and synced; after a crash it has one of the
+/// two names, and once this has succeeded, the right one.
 pub(crate) fn give_name<R: Files>(
     rt: &R,
     alloc: Global,

@@ -8,9 +8,9 @@ use std::io::{Seek, SeekFrom, Write};
 /// What may be done with a file.
 #[derive(Clone, Copy, PartialEq, Eq)]
 enum State {
-    /// All.
+    /// Everything.
     Whole,
-    /// An append failed, and what it left is to be cut off first.
+    /// An append failed, and what it left must be cut off first.
     Torn,
     /// Nothing.
     Failed,
@@ -19,11 +19,11 @@ enum State {
 /// The last file of a journal. Nothing is known of what the system does with it, so contracts see
 /// neither its text nor what of it is synced.
 ///
-/// Each piece is handed to the system when it is appended, and nothing is held back: a disk that is
-/// full is then an append that failed, and no sync that did. A crash leaves the bytes that were synced,
-/// and behind them anything at all. After an append that failed it takes `cut_back` alone, which makes
-/// the file as it was at the last sync, and goes on; after a sync or a `cut_back` that failed nobody
-/// knows what the disk has, so it refuses all from then on, and is to be opened anew.
+/// Each piece is handed to the system when it is appended, and nothing is held back: a full disk is
+/// then a failed append, not a failed sync. A crash leaves the synced bytes, followed by anything
+/// at all. After a failed append it accepts only `cut_back`, which restores the file to the last
+/// sync, and goes on; after a failed sync or `cut_back` nobody knows what the disk has, so it
+/// refuses everything from then on, and must be opened anew.
 #[derive(Drop)]
 pub struct JournalFile<F> {
     file: F,
@@ -35,7 +35,7 @@ pub struct JournalFile<F> {
 }
 
 impl<F: Write + Seek + OpenFile> JournalFile<F> {
-    /// A file with this many bytes, all of them synced, at whose end writing goes on.
+    /// A file of this many bytes, all of them synced, to be appended to.
     pub(crate) fn new(file: F, len: u64) -> JournalFile<F> {
         JournalFile {
             file,
@@ -50,14 +50,14 @@ impl<F: Write + Seek + OpenFile> JournalFile<F> {
         self.synced
     }
 
-    /// Writes a piece behind all that is.
+    /// Writes a piece at the end.
     fn take(&mut self, piece: &[u8]) -> io::Result<()> {
         self.file.write_all(piece)?;
         self.len = self.len.saturating_add(piece.len() as u64);
         Ok(())
     }
 
-    /// Syncs all. A file's length is synced with its data.
+    /// Syncs everything. A file's length is synced with its data.
     fn sync_all(&mut self) -> io::Result<()> {
         self.file.sync_data()?;
         self.synced = self.len;
@@ -72,7 +72,7 @@ impl<F: Write + Seek + OpenFile> JournalFile<F> {
         Ok(())
     }
 
-    /// The answer of a call, after which the file is whole, or is left so.
+    /// The result of a call, after which the file is whole, or in the state `left`.
     fn answer(&mut self, done: io::Result<()>, left: State) -> Result<(), JournalFailed> {
         match done {
             Ok(()) => {

@@ -1,10 +1,10 @@
-//! The files of a node's data directory, as a node that runs writes them.
+//! The files of a node's data directory, as a running node writes them.
 //!
-//! A directory has `lock`, the journal's files and checkpoints, each with an offset of the journal in
-//! its name ([`rr_directory::FileName`]), and beside them, while one is written, a file of the same
-//! name that ends in `.new`. A [`DirectoryLock`] keeps other processes out. [`DataDirectory`] is read as
-//! [`rr_directory::recover`] reads one, and makes and removes files; [`JournalFile`] is what a node
-//! commits to.
+//! A directory has `lock`, journal files and checkpoints, each with an offset of the journal in its
+//! name ([`rr_directory::FileName`]), and beside them, while one is written, a file of the same
+//! name ending in `.new`. A [`DirectoryLock`] keeps other processes out. A [`DataDirectory`] is
+//! what [`rr_directory::recover`] reads, and makes and removes files; a [`JournalFile`] is what a
+//! node commits to.
 //!
 //! ```text
 //! DataDirectory::open ── lock ──> names, open, len ──> recover
@@ -13,11 +13,11 @@
 //!        └── read_at ──> bytes of a file, for a peer
 //! ```
 //!
-//! What survives a crash rests on four rules, which no contract can state: what is in a file survives
-//! once the file is synced; a file has the old or the new name after a crash while it is renamed; a
-//! name survives once its folder is synced; and a file that is truncated is so for good once it is
-//! synced. So a new file gets its name only when it is whole and synced, and nothing rests on it
-//! before the folder is synced too.
+//! What survives a crash rests on four rules, which no contract can state: a file's content
+//! survives once the file is synced; a file that was being renamed has the old or the new name
+//! after a crash; a name survives once its folder is synced; and a truncation is permanent once the
+//! file is synced. So a new file gets its name only when it is whole and synced, and nothing relies
+//! on it before the folder is synced too.
 #![tactic(auto)]
 
 mod bytes_at;

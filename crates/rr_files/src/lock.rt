@@ -3,10 +3,10 @@
 use std::fs::{File, TryLockError};
 use std::io;
 
-/// A file that can be locked, so that one process alone uses a directory.
+/// A file that can be locked, so that only one process uses a directory.
 pub trait TryLock {
-    /// Takes the lock, which is held as long as the file is open, and answers whether no other holds
-    /// it. The system lets go of it when the process ends, however that is.
+    /// Takes the lock, which is held as long as the file is open, and returns whether no other
+    /// holds it. The system releases it when the process ends, however that happens.
     fn take_lock(&self) -> io::Result<bool>;
 }
 

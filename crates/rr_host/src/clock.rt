@@ -1,11 +1,11 @@
-//! Clocks, which lines ask for the moment at which their points come.
+//! Clocks, which lines ask for the moment at which their points arrive.
 
 ghost use Rattle.std.specs.Prelude.{◌≡◌};
 
 /// A source of moments.
 ///
-/// It is seen as the list of the moments that it gave, where that is known, and as the number of
-/// its renewals.
+/// It is seen as the list of the moments that it gave, if that is known, and as the number of its
+/// renewals.
 pub trait Clock {
     ghost use Rattle.std.specs.Prelude.{ℕ, ℤ, List, [], ◌∷◌, Option};
     ghost use Rattle.rr_host.specs.Clock.{HasGiven};
@@ -20,9 +20,9 @@ pub trait Clock {
         ensures given { HasGiven (given self.old) (given self.new) (result ∷ []) }
         ensures renewals { renewals self.new ≡ renewals self.old };
 
-    /// What is asked for from here on comes later than what was asked for before. Between two of
-    /// these calls a clock may give one moment each time, so that one that is dear to read is read
-    /// once. The number of renewals stops at the greatest one of 64 bits.
+    /// Moments asked for from here on come later than those asked for before. Between two of these
+    /// calls a clock may give the same moment each time, so that one that is costly to read is read
+    /// once. The number of renewals saturates at 64 bits.
     fn renew(&mut self)
         ensures given { given self.new ≡ given self.old }
         ensures renewals { renewals self.new ≡ one_more (renewals self.old) };

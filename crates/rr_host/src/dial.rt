@@ -8,7 +8,7 @@ use std::io::{Read, Write};
 
 /// A way to reach peers by their addresses.
 ///
-/// It is seen as the list of its calls, where that is known.
+/// It is seen as the list of its calls, if that is known.
 pub trait Dial {
     ghost use Rattle.std.specs.Prelude.{List, [], ◌∷◌, Option};
     ghost use Rattle.rr_host.specs.Calls.{DialCall, Grows, due, handed_back, passed_over, reached, unreached};
@@ -22,14 +22,14 @@ pub trait Dial {
 
     ghost calls: { Self → Option (List DialCall) };
 
-    /// Whether the peer at an address is to be called now; it is passed over if not.
+    /// Whether the peer at an address is to be called now; if not, it is passed over.
     fn is_due(&mut self, address: &str) -> bool
         ensures due { result ≡ true → Grows (calls self.old) (calls self.new)
             (due address.now ∷ []) }
         ensures passed { result ≡ false → Grows (calls self.old) (calls self.new)
             (passed_over address.now ∷ []) };
 
-    /// A stream to the peer at an address; none where it can't be reached.
+    /// A stream to the peer at an address; none if it can't be reached.
     fn open(&mut self, address: &str) -> Option<(Counted<Self::Input>, Counted<Self::Output>)>
         ensures reached { IfSome result (λ s. Grows (calls self.old) (calls self.new)
             (reached address.now (stream_of Self.Input.remaining Self.Output.contents s.0 s.1) ∷
@@ -43,8 +43,8 @@ pub trait Dial {
             (handed_back (stream_of Self.Input.remaining Self.Output.contents input output) ∷ []) };
 }
 
-/// Whether a peer did nothing wrong by what its streams count: no call failed, and it didn't end
-/// the input before that was handed back.
+/// Whether a peer did nothing wrong, by the counts of its streams: no call failed, and it didn't
+/// end the input before that was handed back.
 pub fn is_without_fault<R, W>(input: &Counted<R>, output: &Counted<W>) -> bool
     ensures { result ≡ is_without_fault input.now output.now }
 {

@@ -1,9 +1,9 @@
-//! The end of a node before its time.
+//! The early end of a node.
 
-/// Whoever ends a node before its time, where memory ran out on one of its threads, or for one of
-/// them: the others then wait for no connection any more, and for no byte of one.
+/// Ends a node early, when memory ran out on one of its threads, or for one of them: the others
+/// then no longer wait for a connection, or for a byte of one.
 ///
-/// It is seen as the list of its calls, where that is known.
+/// It is seen as the list of its calls, if that is known.
 pub trait Halt {
     ghost use Rattle.std.specs.Prelude.{List, [], ◌∷◌, Option};
     ghost use Rattle.rr_host.specs.Calls.{Grows};

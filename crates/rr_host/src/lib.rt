@@ -1,9 +1,9 @@
 //! What a node asks of its host: the time, and connections.
 //!
-//! Each stands behind a small trait, which is seen as the list of its calls. [`Visits`] gives the
-//! connections that come, a [`Dial`] reaches peers, a [`Clock`] gives moments, and a [`Halt`] ends
-//! a node before its time. Over TCP and the system's clock they stand in the program, over memory
-//! in `rr_fakes`. What is done once an interval has a [`Pace`].
+//! Each is behind a small trait, which is seen as the list of its calls. [`Visits`] gives incoming
+//! connections, a [`Dial`] reaches peers, a [`Clock`] gives moments, and a [`Halt`] ends a node
+//! early. Those over TCP and the system's clock are in the program, those over memory in
+//! `rr_fakes`. What is done once an interval has a [`Pace`].
 //!
 //! ```text
 //! Visits ── next ──> Visit: an input and an output ── take_back
@@ -12,8 +12,8 @@
 //! ```
 //!
 //! In `specs/` the calls of each are values (`Visits.antt`, `Calls.antt`, `Clock.antt`,
-//! `Halt.antt`). A stream is told with its bytes, where they are known, and with how often it was
-//! read and how many of its calls failed (`Streams.antt`).
+//! `Halt.antt`). A stream is given by its bytes, if they are known, by how often it was read, and
+//! by how many of its calls failed (`Streams.antt`).
 #![tactic(auto)]
 
 mod clock;

@@ -6,23 +6,23 @@ ghost use Rattle.rr_host.specs.Pace.{is_due, is_past, passed_next};
 use std::marker::Model;
 use std::time::Instant;
 
-/// For how many intervals something that failed is passed over at most.
+/// The most intervals for which something that failed is passed over.
 const MOST_PASSED: u64 = 64;
 
 const _: () = prove!(MOST_PASSED == 64);
 
-/// The pace of something that is done at most once an interval, by a clock that never goes back.
+/// The pace of something that is done at most once an interval, by a monotonic clock.
 ///
 /// After a failure it is passed over for one interval; while it keeps failing, for 2, 4 and so on
-/// up to 64. Each call takes what the clock says. Where that is missing, since the clock couldn't
-/// be read, the thing is due; so it is where it is missing of the last time.
+/// up to 64. Each call takes the clock's time. If that is absent because the clock couldn't be
+/// read, now or the last time, the thing is due.
 #[derive(Drop)]
 pub struct Pace {
     /// The seconds of an interval; without one the thing is due at any time.
     every: Option<u64>,
-    /// When it was done last.
+    /// When it was last done, or last failed.
     last: Option<Instant>,
-    /// For how many intervals it is passed over, since it failed then.
+    /// For how many intervals it is passed over, after failing then.
     passed: u64,
 }
 
@@ -34,7 +34,7 @@ impl Model for Pace {
     ghost view = { λ p. record { every = p.every; last = p.last; passed = p.passed } };
 }
 
-/// Whether an interval of `every` seconds is past, and those that are passed over.
+/// Whether an interval of `every` seconds is over, and those that are passed over.
 fn is_past(elapsed: u64, every: u64, passed: u64) -> bool
     ensures { result ≡ is_past elapsed every passed }
 {
@@ -42,7 +42,7 @@ fn is_past(elapsed: u64, every: u64, passed: u64) -> bool
 }
 
 impl Pace {
-    /// The pace of what is due once in so many seconds, or at any time where these are missing. It
+    /// The pace of something due once every `every` seconds, or at any time if that is absent. It
     /// has not been done yet.
     pub fn new(every: Option<u64>) -> Pace
         ensures { result ≡ record { every = every; last = None; passed = 0 } }
@@ -64,7 +64,7 @@ impl Pace {
         is_past(now.duration_since(last).as_secs(), every, self.passed)
     }
 
-    /// It is done now.
+    /// Notes that it is done now.
     pub fn done(&mut self, now: Option<Instant>)
         ensures { self.new ≡ record { every = self.old.every; last = now; passed = 0 } }
     {
@@ -72,7 +72,7 @@ impl Pace {
         self.passed = 0;
     }
 
-    /// It fails now.
+    /// Notes that it fails now.
     pub fn failed(&mut self, now: Option<Instant>)
         ensures { self.new ≡ record {
           every = self.old.every;

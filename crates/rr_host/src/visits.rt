@@ -9,13 +9,13 @@ pub enum Visit<R, W> {
     Stream(Counted<R>, Counted<W>),
     /// It failed.
     Failed,
-    /// None will come any more.
+    /// No more will come.
     Over,
 }
 
-/// Whoever gives connections, one after the other, and is handed back each of them.
+/// Gives connections, one after the other, and is handed each of them back.
 ///
-/// It is seen as the list of its calls, where that is known.
+/// It is seen as the list of its calls, if that is known.
 pub trait Visits {
     ghost use Rattle.std.specs.Prelude.{[], ◌∷◌, List, Option};
     ghost use Rattle.rr_host.specs.Streams.{stream_of};
@@ -34,8 +34,8 @@ pub trait Visits {
         ensures { HasCalled (calls self.old) (calls self.new)
             (call_of Self.Input.remaining Self.Output.contents result ∷ []) };
 
-    /// Is told that the peer which pulls on the connection that was given last has another schema,
-    /// before the connection is handed back.
+    /// Is told that the peer pulling on the last connection given has another schema, before the
+    /// connection is handed back.
     fn schema_differs(&mut self)
         ensures { HasCalled (calls self.old) (calls self.new) (Differs ∷ []) };
 

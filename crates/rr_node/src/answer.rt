@@ -22,14 +22,14 @@ use rr_replica::{AHEAD_OF_CLOCK, Hint, NUMBERS_SPENT, WriteFault};
 use rr_text::limits::MAX_FIELDS;
 use std::alloc::{AllocError, Global};
 
-/// What came of a line.
+/// What became of a line.
 #[derive(Clone, Copy)]
 pub(crate) enum Answer {
     /// Nothing: it is empty or a comment.
     Nothing,
-    /// As many samples were put as its point has fields.
+    /// This many samples were put, one for each field of its point.
     Put(u32),
-    /// It is refused, by this name.
+    /// It is refused, with this name.
     Refused(&'static str),
 }
 
@@ -54,7 +54,7 @@ fn write_point<A: Cells, C: Clock>(
     }
 }
 
-/// Writes a sample of a key, as its line says it, at the moment that the clock gives.
+/// Writes a sample of a key, as its line gives it, at the moment that the clock gives.
 fn write_sample<A: Cells, C: Clock>(
     keeper: &mut Keeper<A>,
     clock: &mut C,
@@ -77,7 +77,7 @@ fn write_sample<A: Cells, C: Clock>(
     }
 }
 
-/// Writes samples of series, as their line says them, at the moment that the clock gives.
+/// Writes samples of series, as their line gives them, at the moment that the clock gives.
 fn write_samples<A: Cells, C: Clock>(
     keeper: &mut Keeper<A>,
     clock: &mut C,
@@ -99,8 +99,8 @@ fn write_samples<A: Cells, C: Clock>(
     }
 }
 
-/// Where the series is that is likely to come next, its key, and the value and the time of a line,
-/// if it says one sample of that series.
+/// Where the series likely to come next is, its key, and the value and the time of a line, if that
+/// says one sample of the series.
 fn read_one<A: Cells>(
     keeper: &Keeper<A>,
     precision: Precision,
@@ -124,7 +124,7 @@ fn keyed(key: &SeriesKey, hint: Hint, value: i64) -> Option<KeyedValue>
     Some(KeyedValue { key, hint, value })
 }
 
-/// The values and the time of a line, if it says those of the series that are likely to come next,
+/// The values and the time of a line, if the values are those of the series likely to come next,
 /// one after the other.
 fn read_next<A: Cells>(
     alloc: Global,
@@ -156,8 +156,8 @@ fn read_next<A: Cells>(
     Some((values, time))
 }
 
-/// Writes the point of a line, if it has one. A line is read by the grammar where it says other
-/// samples than those that are likely to come next.
+/// Writes the point of a line, if it has one. A line that says other samples than those likely to
+/// come next is read by the grammar.
 fn write_line<A: Cells, C: Clock>(
     alloc: Global,
     keeper: &mut Keeper<A>,
@@ -195,7 +195,8 @@ fn refusal(fault: LineFault) -> Result<Answer, AllocError>
     }
 }
 
-/// Writes the point of an item, if it has one. The time of the line before is read once.
+/// Writes the point of an item, if it has one. A known line that repeats the time of the line before
+/// doesn't read it again.
 pub(crate) fn write_item<A: Cells, C: Clock>(
     alloc: Global,
     keeper: &mut Keeper<A>,

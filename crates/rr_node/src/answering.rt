@@ -17,7 +17,7 @@ use rr_text::bytes::{LINE_FEED, SPACE};
 use rr_text::text::cut;
 use std::alloc::{AllocError, Global};
 
-/// What follows the word `fetch` and a space, where a line begins so.
+/// What follows the word `fetch` and a space, if a line begins with them.
 fn after_fetch(line: &[u8]) -> Option<&[u8]>
     ensures { option_map (λ words. words.now) result ≡ after_fetch line.now }
 {
@@ -36,7 +36,7 @@ fn request_in(alloc: Global, line: &[u8], schema: &Schema) -> Result<Request, Re
     parse_request(alloc, words, schema)
 }
 
-/// The refusal of this name.
+/// The refusal with this name.
 fn error_text(alloc: Global, name: &str) -> Result<Vec<u8>, AllocError>
     ensures { IfOk result (λ refusal. refusal.items ≡ error_text name.now) }
 {
@@ -82,7 +82,7 @@ pub fn answer_line<A: Cells, G: Gate>(
     }
 }
 
-/// The answer to an item, and an empty line.
+/// The answer to an item, followed by an empty line.
 fn answer_item<A: Cells, G: Gate>(
     alloc: Global,
     item: FeedLine<'_>,

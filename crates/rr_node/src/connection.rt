@@ -32,12 +32,12 @@ pub(crate) struct Connection {
     alloc: Global,
     feed: Feed,
     rules: Rules,
-    /// How many pieces came. They bound the lines, whose number therefore fits.
+    /// How many pieces came. They bound the number of lines, which therefore fits.
     pieces: u32,
     lines: u64,
     report: Report,
-    /// The time of the last line that had one; most lines of a connection have that of the one
-    /// before.
+    /// The time of the last line that had one; most lines of a connection repeat the time of the
+    /// one before.
     last: LastTime,
 
     ghost few: { report.points + report.refused ≤ lines },
@@ -49,7 +49,7 @@ impl Connection {
     ghost use Rattle.rr_node.specs.Connection.{AnswersLines, Finishes, IsFew, IsNew, ConnectionMayTake, ConnectionTakesPiece, ServedAllItems, ServesAllAmong, StoppedByMemory, counted_in, text_to};
     ghost use Rattle.rr_feed.specs.Feed.{state};
 
-    /// No line came yet.
+    /// A connection on which no line came yet.
     pub(crate) fn new(alloc: Global, rules: Rules) -> Connection
         ensures { IsNew rules result }
     {
@@ -68,7 +68,7 @@ impl Connection {
         }
     }
 
-    /// Whether it takes in no further piece, since their number would not fit.
+    /// Whether it takes no further piece, since their number wouldn't fit.
     pub(crate) fn is_closed(&self) -> bool
         ensures { result ≡ false → self.now.pieces + 1 < 2 ^ 32 }
     {
@@ -92,7 +92,7 @@ impl Connection {
         self.feed.end();
     }
 
-    /// Takes in a piece. It is refused once the input has ended, and where memory runs out.
+    /// Takes a piece, which is refused once the input has ended, or if memory runs out.
     pub(crate) fn push(&mut self, piece: &[u8]) -> Result<(), AllocError>
         requires { ConnectionMayTake self.old piece.now }
         ensures { OnOk result (ConnectionTakesPiece self.old self.new piece.now) }
@@ -104,7 +104,7 @@ impl Connection {
         Ok(())
     }
 
-    /// Counts a line, and adds what is answered to it.
+    /// Counts a line, and adds the answer to it.
     fn count(&mut self, answers: &mut Vec<u8>, answer: Answer) -> Result<(), AllocError>
         requires room { self.old.lines + length self.old.feed.left < self.old.pieces * PIECE }
         requires answer_fits { IsFew answer }
@@ -131,7 +131,7 @@ impl Connection {
         Ok(())
     }
 
-    /// Publishes what is pending after each 1,000 lines.
+    /// Publishes what is pending after every 1,000 lines.
     fn publish_in_turn<A: Cells, T: Wait>(
         &self,
         keeper: &mut Keeper<A>,
@@ -146,7 +146,7 @@ impl Connection {
         Ok(())
     }
 
-    /// Hands the lines that came to the keeper, and adds what is answered to them.
+    /// Hands the keeper the lines that came, and adds the answers to them.
     pub(crate) fn write_lines<A: Cells, C: Clock, T: Wait>(
         &mut self,
         answers: &mut Vec<u8>,
@@ -175,8 +175,8 @@ impl Connection {
         Ok(())
     }
 
-    /// Hands the lines that came to the keeper, and writes what is answered to them. Lines that
-    /// came together may have one moment.
+    /// Hands the keeper the lines that came, and writes the answers to them. Lines that came
+    /// together may share one moment.
     pub(crate) fn answer_lines<A: Cells, C: Clock, W: Write, T: Wait>(
         &mut self,
         output: &mut Counted<W>,
@@ -194,7 +194,7 @@ impl Connection {
         Ok(())
     }
 
-    /// Serves what is left once the input is at its end, publishes all, and writes the report.
+    /// Serves what is left at the end of the input, publishes everything, and writes the report.
     pub(crate) fn finish<A: Cells, C: Clock, W: Write, T: Wait>(
         &mut self,
         output: &mut Counted<W>,
@@ -213,7 +213,7 @@ impl Connection {
     }
 }
 
-/// Writes bytes and has the writer pass them on; nothing is done where there are none.
+/// Writes bytes and flushes the writer; does nothing if there are none.
 fn send<W: Write>(output: &mut Counted<W>, bytes: &[u8]) -> Result<(), WriteFailed>
     ensures writes { Writes W.contents output.old output.new bytes.now result }
     ensures flushed { OnOk result (bytes.now ≢ [] → is_flushed output.new ≡ true) }

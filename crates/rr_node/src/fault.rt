@@ -18,7 +18,7 @@ pub enum NodeFault {
     WriteFailed,
     /// The input didn't end within the reads that it may take.
     TooManyReads,
-    /// An address can't be reached, or not be listened on.
+    /// An address can't be reached.
     BadAddress,
     /// A session in which a peer pulls ended early.
     Session(GossipFault),
@@ -29,7 +29,7 @@ pub enum NodeFault {
 impl NodeFault {
     ghost use Rattle.rr_node.specs.Fault.{node_fault_name};
 
-    /// The printed name: that of the session's fault where it is one.
+    /// The printed name; for a session, that of its fault.
     pub fn name(&self) -> &'static str
         ensures { result.now ≡ node_fault_name self.now }
     {

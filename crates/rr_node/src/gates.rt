@@ -7,7 +7,7 @@ use rr_desk::Gate;
 pub struct OpenGate;
 
 impl OpenGate {
-    /// A gate that was not asked yet.
+    /// A gate that hasn't been asked yet.
     pub fn new() -> OpenGate {
         OpenGate
     }

@@ -5,16 +5,16 @@
 //!               ┌ Visits ── serve_lines ──> samples that a Keeper puts, answers and a report
 //! keep_round ───┤ Dial ──── pull_peer ────> cells that it joins and publishes
 //!               └ Shelf ─────────────────< a snapshot of its replica
-//! serve_seat ──── Visits ── serve_reader ─> answers of a Reader, or a session in which a peer pulls
+//! serve_seat ──── Visits ── serve_reader ─> answers of a Reader, or a session where a peer pulls
 //! ```
 //!
 //! [`serve_node`] keeps rounds on one thread ([`keep_round`]) and serves each [`Seat`] on another.
-//! What is handed in stands behind small traits, each seen as the list of its calls: [`Visits`], a
+//! What is handed in is behind small traits, each seen as the list of its calls: [`Visits`], a
 //! [`Dial`], a [`Halt`] and a [`Clock`] of [`rr_host`], and a [`Shelf`], which takes snapshots.
 //!
-//! In `specs/` what lines make of a keeper, and what is answered, is a function of them and the
-//! clock's moments (`specs/Lines.antt`). The answer to a fetch is a function of the cells that the
-//! reader has seen (`specs/Fetches.antt`), over lists of operations that grow. A seat is the
+//! In `specs/` what lines make of a keeper, and the answers to them, are functions of the lines and
+//! the clock's moments (`specs/Lines.antt`). The answer to a fetch is a function of the cells that
+//! the reader has seen (`specs/Fetches.antt`), over lists of operations that grow. A seat is the
 //! connections of its calls, served in order (`specs/Seats.antt`); a round is its parts in order
 //! (`specs/Round.antt`), and a node's rounds follow each other (`specs/Rounds.antt`).
 #![tactic(auto)]

@@ -21,9 +21,9 @@ use rr_line::Precision;
 use std::alloc::Global;
 use std::sync::Wait;
 
-/// The lines of one stream, such as a connection or the body of a request, whose bytes come piece by
-/// piece. They are taken as [`serve_lines`](crate::serve_lines) takes them, but that their answers
-/// are kept in memory, and that the last lines are published by whoever ends the stream.
+/// The lines of one stream, such as a connection or the body of a request, whose bytes come piece
+/// by piece. They are taken as [`serve_lines`](crate::serve_lines) takes them, except that their
+/// answers are kept in memory, and that whoever ends the stream publishes the last lines.
 #[derive(Drop)]
 pub struct LineStream {
     connection: Connection,
@@ -33,8 +33,8 @@ impl LineStream {
     ghost use Rattle.rr_node.specs.LineStream.{Ends, EndsAmong, HasTaken, IsFresh, Stops, Takes};
     ghost use Rattle.rr_node.specs.LineStream.{TakesAmong, report_of, rules_by};
 
-    /// A stream of which nothing has come. The times of its lines have this precision, and may be
-    /// ahead of the clock by `lead` nanoseconds, or by any where that is missing.
+    /// A stream of which nothing has come yet. The times of its lines have this precision, and may
+    /// be ahead of the clock by `lead` nanoseconds, or by any amount if that is absent.
     pub fn new(alloc: Global, precision: Precision, lead: Option<u64>) -> LineStream
         ensures rules { rules_by result ≡ rules_of precision lead }
         ensures nothing { (start : KeeperState) → HasTaken result start [] [] start [] }
@@ -83,13 +83,13 @@ impl LineStream {
         Ok(())
     }
 
-    /// Takes the next bytes: hands each line that is whole now to the keeper, and adds to `answers`
-    /// what is answered to it, but no more than `limit` bytes in all. Points without a time have one
-    /// moment, since the clock is renewed once.
+    /// Takes the next bytes: hands each line that is now whole to the keeper, and adds its answer
+    /// to `answers`, but no more than `limit` bytes in all. Points without a time share one moment,
+    /// since the clock is renewed once.
     ///
-    /// Refused as `TooManyReads` where 4,294,967,295 pieces of [`PIECE`] bytes or less have come, and
-    /// as `Memory`. Then some of the lines are taken, and the stream is of no further use. The cost
-    /// is that of writing each line.
+    /// Refused as `TooManyReads` once 4,294,967,295 pieces of at most [`PIECE`] bytes have come,
+    /// and as `Memory`. Some of the lines are then taken, and the stream is of no further use. The
+    /// cost is that of writing each line.
     pub fn take<A: Cells, C: Clock, T: Wait>(
         &mut self,
         bytes: &[u8],
@@ -125,7 +125,7 @@ impl LineStream {
     }
 
     /// Ends the stream: what is left of it is a line, which is taken as [`LineStream::take`] takes
-    /// one. The answer is what became of all lines. They are published up to the last 1,000.
+    /// one. Returns what became of all lines. They are published up to the last multiple of 1,000.
     pub fn end<A: Cells, C: Clock, T: Wait>(
         self,
         limit: usize,
@@ -155,14 +155,14 @@ impl LineStream {
 /// What became of the lines of a whole text.
 #[derive(Debug, Drop)]
 pub struct TakenText {
-    /// What was answered to them: a line for each that was refused.
+    /// The answers to them: a line for each that was refused.
     pub refusals: Vec<u8>,
     /// How many there were of each kind.
     pub report: Report,
 }
 
-/// Takes all lines of a text, as [`LineStream::take`] and [`LineStream::end`] take those of a stream;
-/// of their answers no more than `limit` bytes are kept.
+/// Takes all lines of a text, as [`LineStream::take`] and [`LineStream::end`] take those of a
+/// stream; at most `limit` bytes of their answers are kept.
 pub fn take_text<A: Cells, C: Clock, T: Wait>(
     alloc: Global,
     text: &[u8],

@@ -21,15 +21,15 @@ use std::alloc::Global;
 use std::io::{Read, Write};
 use std::sync::Wait;
 
-/// Hands the lines that `input` still has to a keeper, answers to `output`, and reports what became
-/// of them.
+/// Hands the lines left in `input` to a keeper, answers to `output`, and reports what became of
+/// them.
 ///
 /// Each line is one [`Keeper::write`], with a sample for each field of its point, at its own time,
-/// or else at the moment that the clock gives. The clock is asked once for each point, also for one
+/// or else at the moment that the clock gives. The clock is asked once for each point, even one
 /// with a time of its own, and is renewed for each piece of the input. A refused line is answered
-/// at once by `line N: NAME`, where N counts all lines from 1: its fault, `LineTooLong`,
-/// `AheadOfClock` or `NumbersSpent`. After each 1,000 lines and at the end all is published; then
-/// `points P samples S refused R` is written.
+/// at once with `line N: NAME`, where N counts all lines from 1 and NAME is its fault,
+/// `LineTooLong`, `AheadOfClock` or `NumbersSpent`. After every 1,000 lines and at the end
+/// everything is published; then `points P samples S refused R` is written.
 ///
 /// However a call ends, what was put stays, published or pending, and what is written is a prefix
 /// of the whole answer. The cost is that of reading and writing each line; a piece of the input,
@@ -63,9 +63,9 @@ pub fn serve_lines<A: Cells, R: Read, W: Write, C: Clock, T: Wait>(
 
 /// Serves lines as [`serve_lines`] does, within a limit of reads.
 ///
-/// Each call of the reader is a read: one that a signal interrupted, and the one that gives no byte
-/// and so tells the end. `TooManyReads` is answered after `reads` of them none of which told the
-/// end, and no further call is made.
+/// Each call of the reader is a read, including one that a signal interrupted, and the one that
+/// gives no byte, which is the end. After `reads` of them without the end, it returns
+/// `TooManyReads`, and no further call is made.
 pub fn serve_lines_within<A: Cells, R: Read, W: Write, C: Clock, T: Wait>(
     alloc: Global,
     input: &mut Counted<R>,

@@ -19,7 +19,7 @@ use std::thread::{Threads, join_mut};
 
 /// The seats of a node, each of which is served on a thread of its own.
 ///
-/// They are seen as the list of their calls, where that is known.
+/// They are seen as the list of their calls, if that is known.
 pub trait Seats {
     ghost use Rattle.std.specs.Prelude.{List, [], ◌∷◌, Option};
     ghost use Rattle.std.specs.Thread.{IsSync};
@@ -28,23 +28,23 @@ pub trait Seats {
 
     ghost calls: { Self → Option (List SeatsCall) };
 
-    /// Serves each seat as [`crate::serve_seat`] does, for so many connections, and answers whether
-    /// memory sufficed in all of them. It ends when all seats have.
+    /// Serves each seat as [`crate::serve_seat`] does, for this many connections, and returns
+    /// whether memory sufficed in all of them. It ends when all seats have.
     ///
-    /// Where memory runs out at one of them, and where the node is halted, the others are to end
-    /// too, whatever they wait for.
+    /// If memory runs out at one of them, or the node is halted, the others must end too, whatever
+    /// they wait for.
     fn serve<T: Threads + Sync>(&mut self, rt: &T, alloc: Global, visits: u64) -> bool
         requires { IsSync T.row }
         ensures { Grows (calls self.old) (calls self.new) (served visits result ∷ []) };
 }
 
-/// Serves as a node. On the calling thread rounds are kept ([`crate::keep_round`]) until no line
-/// connection will come, or until there were as many as the configuration says; each seat is served
-/// on a thread of its own ([`crate::serve_seat`]), for as many connections as it says. It ends when
-/// all threads have.
+/// Serves as a node. The calling thread keeps rounds ([`crate::keep_round`]) until no more line
+/// connections will come, or until there were as many as the configuration says; each seat is
+/// served on a thread of its own ([`crate::serve_seat`]), for as many connections as it says. It
+/// ends when all threads have.
 ///
-/// Refused as `Memory` alone, where it ran out on one of the threads, which then ended early.
-/// `halt` is called exactly where it ran out in the rounds, so that the seats end early too.
+/// Refused only as `Memory`, if it ran out on one of the threads, which then ended early. `halt` is
+/// called exactly when it ran out in the rounds, so that the seats end early too.
 pub fn serve_node<
     A: Cells,
     V: Visits,

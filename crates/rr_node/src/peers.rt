@@ -50,7 +50,7 @@ fn skipped(pulled: Result<(), NodeFault>) -> Result<Option<NodeFault>, AllocErro
     }
 }
 
-/// Tells the shelf of a peer that is done with: whether it has cells of the keeper's own origin,
+/// Tells the shelf about a peer that is done with: whether it has cells of the keeper's own origin,
 /// and its fault.
 fn tell<S: Shelf>(shelf: &mut S, number: usize, has_own: bool, fault: Option<NodeFault>)
     ensures { Grows (S.calls shelf.old) (S.calls shelf.new) (reported_of_peer number has_own fault) }
@@ -63,9 +63,9 @@ fn tell<S: Shelf>(shelf: &mut S, number: usize, has_own: bool, fault: Option<Nod
     }
 }
 
-/// Pulls from each peer that is due, in their order. A fault other than `Memory` is told to the
-/// shelf, and ends no other pull. So is a peer that has cells of the keeper's own origin with
-/// versions at or past its next number.
+/// Pulls from each peer that is due, in order. The shelf is told of a fault other than `Memory`,
+/// which ends no other pull, and of a peer that has cells of the keeper's own origin with versions
+/// at or past its next number.
 pub(crate) fn pull_peers<A: Cells, D: Dial, S: Shelf, T: Wait>(
     alloc: Global,
     peers: &[String],

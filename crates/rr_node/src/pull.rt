@@ -15,12 +15,12 @@ use std::sync::Wait;
 
 /// Pulls cells from a peer and publishes them: see [`rr_gossip::pull`].
 ///
-/// What is published is what was pending, and then a join of each cell that the peer answered, in
-/// order. The cost is that of `pull` and of [`Keeper::publish`].
+/// It publishes what was pending, and then a join of each cell that the peer answered, in order.
+/// The cost is that of `pull` and of [`Keeper::publish`].
 ///
 /// The faults are those of `pull`. After one of them the joins of the cells so far stay pending, in
-/// order, to be published with what comes later; so they do where memory runs out for the
-/// publication, which is `Memory` too. It waits for readers as [`Keeper::publish`] does.
+/// order, to be published with what comes later; likewise if memory runs out for the publication,
+/// which is `Memory` too. It waits for readers as [`Keeper::publish`] does.
 pub fn pull_peer<A: Cells, R: Read, W: Write, T: Wait>(
     alloc: Global,
     input: &mut Counted<R>,

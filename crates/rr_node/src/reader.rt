@@ -37,7 +37,7 @@ fn read_first<R: Read>(input: &mut Counted<R>) -> Result<(Option<u8>, u32), Node
     Err(NodeFault::TooManyReads)
 }
 
-/// Takes a piece into a feed that is not at its end.
+/// Pushes a piece into a feed that isn't at its end.
 fn push(feed: &mut Feed, piece: &[u8]) -> Result<(), AllocError>
     requires { feed.old.ended ≡ false }
     ensures { OnOk result (feed.new ≡ record feed.old { left = feed.old.left ++ piece.now }) }
@@ -45,8 +45,8 @@ fn push(feed: &mut Feed, piece: &[u8]) -> Result<(), AllocError>
     feed.push(piece).map_err(|_| AllocError)
 }
 
-/// Writes the answers to the items that can be handed out, each before the next is made, and passes
-/// them on.
+/// Writes the answers to the items that can be handed out, each before the next is made, and
+/// flushes them.
 fn answer_items<A: Cells, W: Write, G: Gate>(
     alloc: Global,
     feed: &mut Feed,
@@ -71,7 +71,7 @@ fn answer_items<A: Cells, W: Write, G: Gate>(
     Ok(())
 }
 
-/// Answers lines, of which the first byte is read already, within a number of reads.
+/// Answers lines whose first byte is already read, within a number of reads.
 fn answer_lines<A: Cells, R: Read, W: Write, G: Gate>(
     alloc: Global,
     first: u8,
@@ -136,17 +136,16 @@ fn give_session<A: Cells, R: Read, W: Write>(
 
 /// Serves a connection: answers fetches, or one session in which a peer pulls.
 ///
-/// Where the first byte is 0, it begins a session, which is answered as
-/// [`give_after`](rr_gossip::give_after) does; a fault of it is `Session`. Otherwise each line
-/// `fetch CF RESOLUTION START END KEY` is answered by records of CSV, and a line that is refused by
-/// `error NAME`; an empty line follows each answer. The names are those of
-/// [`parse_request`](rr_fetch::parse_request), and `LineTooLong`, `BadCommand` for a line that does
-/// not begin with `fetch` and a space, and `GateShut` where the gate lets no answer pass. A last
-/// line may lack its line feed. Each answer is written before the next is made, and all are passed
-/// on before more is read.
+/// A first byte of 0 begins a session, which is answered as [`give_after`](rr_gossip::give_after)
+/// does; a fault of it is `Session`. Otherwise each line `fetch CF RESOLUTION START END KEY` is
+/// answered with records of CSV, and a refused line with `error NAME`; an empty line follows each
+/// answer. The names are those of [`parse_request`](rr_fetch::parse_request), and `LineTooLong`,
+/// `BadCommand` for a line that doesn't begin with `fetch` and a space, and `GateShut` if the gate
+/// lets no answer pass. A last line may lack its line feed. Each answer is written before the next
+/// is made, and all are flushed before more is read.
 ///
 /// The connection ends as `ReadFailed`, as `WriteFailed`, as `TooManyReads` after 4,294,967,295
-/// reads that did not reach the end, and as `Memory`; a prefix of the answers is then written. The
+/// reads that didn't reach the end, and as `Memory`; a prefix of the answers is then written. The
 /// cost is that of the fetches, and linear in the bytes; a line, a piece of the input and one
 /// answer are held.
 pub fn serve_reader<A: Cells, R: Read, W: Write, G: Gate>(
@@ -161,12 +160,12 @@ pub fn serve_reader<A: Cells, R: Read, W: Write, G: Gate>(
         (W.contents (inner_of output.old)) (W.contents (inner_of output.new))
         (sight reader.old (G.calls gate.old)) (sight reader.new (G.calls gate.new)) }
 
-    // What is passed on.
+    // What is flushed.
     ensures flushed { OnOk result (StaysFlushed output.old output.new) }
     ensures stays_flushed { IfErr result (λ fault. IsInputFault fault
         → StaysFlushed output.old output.new) }
 
-    // Within which reads lines are answered.
+    // Within how many reads lines are answered.
     ensures limit { IfSome (R.remaining (inner_of input.old)) (λ bytes. is_pull bytes ≡ false
         → HasFewReads MAX_READS input.old input.new) }
 

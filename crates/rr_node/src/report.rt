@@ -26,7 +26,8 @@ fn push_count(text: &mut Vec<u8>, word: &[u8], count: u64) -> Result<(), AllocEr
     text.extend_from_slice(buffer.format(count).as_bytes())
 }
 
-/// Adds `points P samples S refused R`, without a line feed. After an `Err` some of it may be there.
+/// Adds `points P samples S refused R`, without a line feed. After an `Err` part of it may be
+/// there.
 pub fn push_report_line(text: &mut Vec<u8>, report: &Report) -> Result<(), AllocError>
     ensures { OnOk result (text.new.items ≡ text.old.items ++ report_line report.now) }
 {
@@ -35,7 +36,7 @@ pub fn push_report_line(text: &mut Vec<u8>, report: &Report) -> Result<(), Alloc
     push_count(text, b" refused ", report.refused)
 }
 
-/// Adds the line `points P samples S refused R`. After an `Err` some of it may be there.
+/// Adds the line `points P samples S refused R`. After an `Err` part of it may be there.
 pub fn push_report(text: &mut Vec<u8>, report: &Report) -> Result<(), AllocError>
     ensures { OnOk result (text.new.items ≡ text.old.items ++ report_text report.now) }
 {

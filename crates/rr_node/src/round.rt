@@ -22,7 +22,7 @@ use std::sync::Wait;
 /// What came of waiting for a line connection.
 #[derive(Drop)]
 pub(crate) enum Lines {
-    /// None will come any more.
+    /// No more will come.
     Over,
     /// One came or failed, with the report of its lines if they were served to the end.
     Taken(Option<Report>),
@@ -86,13 +86,13 @@ fn end_pulls<A: Cells, S: Shelf>(shelf: &mut S, keeper: &Keeper<A>)
     }
 }
 
-/// One round of the keeper of a node: it serves the lines of the next connection, tells the shelf
-/// their report, pulls from each peer of the configuration that is due, in their order, tells the
-/// shelf that it has, and saves a snapshot where the shelf wants one. The answer is whether a
-/// connection came; where none will come any more, nothing else is done.
+/// One round of a node's keeper: it serves the lines of the next connection, tells the shelf their
+/// report, pulls from each peer of the configuration that is due, in order, tells the shelf that it
+/// has, and saves a snapshot if the shelf wants one. Returns whether more connections may come; if
+/// none will, nothing is done.
 ///
-/// A fault of the connection ends the connection alone. A peer that can't be reached or whose pull
-/// fails is passed over, and a save that fails too; both are told to the shelf, as is a peer with
+/// A fault of the connection ends only the connection. A peer that can't be reached or whose pull
+/// fails is passed over, as is a save that fails; the shelf is told of both, and of a peer with
 /// cells of the node's own origin that the node never wrote. `Memory` ends the round there; there
 /// is no other fault. Each stream that was given is handed back.
 pub fn keep_round<A: Cells, V: Visits, D: Dial, S: Shelf, C: Clock, T: Wait>(

@@ -1,4 +1,4 @@
-//! The rounds of a keeper, one after the other, and what follows where memory runs out in them.
+//! The rounds of a keeper, one after the other, and what follows if memory runs out in them.
 
 ghost use Rattle.std.specs.Prelude.{◌≡◌, is_ok};
 ghost use Rattle.rr_node.specs.Rounds.{HasKept, KeepsOrHalts, post, rounds_of};
@@ -24,8 +24,8 @@ fn most_rounds(config: &Config) -> u64
     }
 }
 
-/// Keeps rounds, one after the other, until no connection will come, until memory runs out, or
-/// until there were as many as the configuration has.
+/// Keeps rounds, one after the other, until no more connections will come, until memory runs out,
+/// or until there were as many as the configuration has.
 fn keep_rounds<A: Cells, V: Visits, D: Dial, S: Shelf, C: Clock, T: Wait>(
     alloc: Global,
     keeper: &mut Keeper<A>,
@@ -48,8 +48,8 @@ fn keep_rounds<A: Cells, V: Visits, D: Dial, S: Shelf, C: Clock, T: Wait>(
     Ok(())
 }
 
-/// Keeps rounds, one after the other, until no connection will come, or until there were as many as
-/// the configuration says, and halts the node where memory runs out.
+/// Keeps rounds, one after the other, until no more connections will come, or until there were as
+/// many as the configuration says, and halts the node if memory runs out.
 pub fn keep_or_halt<A: Cells, V: Visits, D: Dial, S: Shelf, H: Halt, C: Clock, T: Wait>(
     alloc: Global,
     keeper: &mut Keeper<A>,

@@ -2,7 +2,7 @@
 
 use rr_line::Precision;
 
-/// After how many lines all is published.
+/// After how many lines everything is published.
 pub(crate) const LINES_TO_PUBLISH: u64 = 1_000;
 
 const _: () = prove!(LINES_TO_PUBLISH == 1_000);
@@ -12,7 +12,6 @@ const _: () = prove!(LINES_TO_PUBLISH == 1_000);
 pub(crate) struct Rules {
     /// The unit of their times.
     pub(crate) precision: Precision,
-    /// How far a point's own time may be ahead of the clock, in nanoseconds: any time where it is
-    /// missing.
+    /// How far ahead of the clock a point's own time may be, in nanoseconds; unlimited if absent.
     pub(crate) lead: Option<u64>,
 }

@@ -26,8 +26,8 @@ fn tell<S: Shelf>(shelf: &mut S, saved: Result<(), SaveFault>) -> Result<(), All
     }
 }
 
-/// Saves a snapshot of the keeper's replica, where the shelf wants one. A fault other than `Memory`
-/// is told to the shelf.
+/// Saves a snapshot of the keeper's replica, if the shelf wants one. The shelf is told of a fault
+/// other than `Memory`.
 pub(crate) fn save_to<A: Cells, S: Shelf>(
     alloc: Global,
     shelf: &mut S,

@@ -16,15 +16,15 @@ use std::alloc::{AllocError, Global};
 /// A reader of a desk, where its connections come from, and its gate.
 #[derive(Drop)]
 pub struct Seat<A: Cells, V: Visits, G: Gate> {
-    /// Who answers.
+    /// The reader that answers.
     pub reader: Reader<A>,
     /// The connections.
     pub visits: V,
-    /// Whom the reader asks before each answer.
+    /// The gate that the reader asks before each answer.
     pub gate: G,
 }
 
-/// Tells visits, before a connection is handed back, that the peer which pulled on it has another
+/// Tells visits, before a connection is handed back, if the peer that pulled on it has another
 /// schema.
 fn tell<V: Visits>(visits: &mut V, served: &Result<(), NodeFault>)
     ensures { HasCalled (V.calls visits.old) (V.calls visits.new) (reported_of_schema served.now) }
@@ -45,7 +45,7 @@ fn end_without_memory(served: Result<(), NodeFault>) -> Result<(), AllocError>
     }
 }
 
-/// Serves the next connection, and answers whether another may come.
+/// Serves the next connection, and returns whether another may come.
 fn serve_visit<A: Cells, V: Visits, G: Gate>(
     alloc: Global,
     seat: &mut Seat<A, V, G>,
@@ -85,11 +85,11 @@ fn most_visits(visits: u64) -> u64
 }
 
 /// Serves the connections of a seat, one after the other, as [`serve_reader`] does: `visits` of
-/// them, or for 0 without end, which is 2^64 - 1 of them. One that fails counts, whatever its
+/// them, or without limit for 0, which is 2^64 - 1 of them. One that fails counts, whatever its
 /// fault.
 ///
-/// It ends before that where no connection will come, and as `Memory`, where memory ran out; there
-/// is no other fault. Each connection that was given is handed back.
+/// It ends earlier if no more connections will come, and as `Memory` if memory ran out; there is no
+/// other fault. Each connection that was given is handed back.
 pub fn serve_seat<A: Cells, V: Visits, G: Gate>(
     alloc: Global,
     seat: &mut Seat<A, V, G>,

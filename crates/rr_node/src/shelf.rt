@@ -18,9 +18,9 @@ pub enum Opening<W> {
     Failed,
 }
 
-/// Whoever takes the snapshots of a node, and is told what its rounds did and what failed.
+/// Takes the snapshots of a node, and is told what its rounds did and what failed.
 ///
-/// It is seen as the list of its calls, where that is known.
+/// It is seen as the list of its calls, if that is known.
 pub trait Shelf {
     ghost use Rattle.std.specs.Prelude.{List, [], ◌∷◌, Option};
     ghost use Rattle.rr_host.specs.Calls.{Grows};
@@ -33,23 +33,23 @@ pub trait Shelf {
 
     ghost calls: { Self → Option (List ShelfCall) };
 
-    /// Is told what became of the lines of a round's connection, before its pulls: the report where
+    /// Is told what became of the lines of a round's connection, before its pulls: the report, if
     /// they were served to the end.
     fn lines_taken(&mut self, report: Option<Report>)
         ensures { Grows (calls self.old) (calls self.new) (taken report ∷ []) };
 
-    /// Is told that a peer, by its number from 1, brought cells of the keeper's own origin which
-    /// the keeper never wrote: their versions are at or past its next number. So this origin was
-    /// used twice.
+    /// Is told that a peer, by its number from 1, brought cells of the keeper's own origin that the
+    /// keeper never wrote: their versions are at or past its next number. So this origin was used
+    /// twice.
     fn own_origin(&mut self, number: usize)
         ensures { Grows (calls self.old) (calls self.new) (own_origin number ∷ []) };
 
-    /// Is told that the pull of a peer failed, by its number from 1.
+    /// Is told that the pull from a peer failed, by its number from 1.
     fn peer_failed(&mut self, number: usize, fault: NodeFault)
         ensures { Grows (calls self.old) (calls self.new) (peer_failed number fault ∷ []) };
 
-    /// Says whether it wants to be told how many cells the node has after this round's pulls, which
-    /// are counted series by series for it.
+    /// Whether it wants to be told how many cells the node has after this round's pulls, which are
+    /// counted series by series for it.
     fn counts_cells(&mut self) -> bool
         ensures { Grows (calls self.old) (calls self.new) (counts result ∷ []) };
 
@@ -58,11 +58,11 @@ pub trait Shelf {
     fn pulls_ended(&mut self, cells: Option<usize>)
         ensures { Grows (calls self.old) (calls self.new) (pulled cells ∷ []) };
 
-    /// Is told how many samples the keeper was given since it began that no archive kept.
+    /// Is told how many samples given to the keeper since it began were kept by no archive.
     fn past_horizon(&mut self, samples: u64)
         ensures { Grows (calls self.old) (calls self.new) (past_horizon samples ∷ []) };
 
-    /// Opens a writer for a snapshot, where one is wanted.
+    /// Opens a writer for a snapshot, if one is wanted.
     fn open(&mut self) -> Opening<Self::Output>
         ensures opened { (writer : _) → result ≡ opening.Writer writer
             → Grows (calls self.old) (calls self.new)
@@ -72,7 +72,7 @@ pub trait Shelf {
         ensures failed { result ≡ opening.Failed
             → Grows (calls self.old) (calls self.new) (unopened ∷ []) };
 
-    /// Takes back the writer of a snapshot, which is written whole or not.
+    /// Takes back the writer of a snapshot, and whether that is written whole.
     fn take_back(&mut self, output: Counted<Self::Output>, whole: bool)
         ensures { Grows (calls self.old) (calls self.new)
             (put_back (output_of Self.Output.contents output) whole ∷ []) };

@@ -6,7 +6,7 @@ ghost use Rattle.rr_node.specs.Tally.{no_tally, tally_more};
 use crate::report::Report;
 
 /// Counts of the line connections whose lines were served to the end, and of their lines. Each
-/// stops at its greatest value.
+/// count saturates.
 #[derive(Clone, Copy)]
 pub struct Tally {
     /// The connections.
@@ -20,7 +20,7 @@ pub struct Tally {
 }
 
 impl Tally {
-    /// No connection.
+    /// The counts of no connections.
     pub fn new() -> Tally
         ensures { result ≡ no_tally }
     {

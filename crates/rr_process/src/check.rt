@@ -13,14 +13,14 @@ use rr_text::limits::MAX_READS;
 use std::alloc::Global;
 use std::io::{Read, Write};
 
-/// Writes the report of the lines that `input` still has, and answers how many of them are refused.
+/// Writes the report of the lines left in `input`, and returns how many of them are refused.
 ///
 /// For each field of a point it writes `KEY TEXT,VALUE,TIME` to `output`, with the time in
-/// nanoseconds, and `now` where the line has none; for a refused line `line N: NAME`, where N
-/// counts all lines from 1. An empty line and a comment produce no output.
+/// nanoseconds, or `now` if the line has none; for a refused line `line N: NAME`, where N counts
+/// all lines from 1. An empty line and a comment produce no output.
 ///
-/// What is written is a prefix of the report wherever a call ends. The cost is that of reading each
-/// line and of making the key of each of its fields; a piece of the input, one line and their
+/// What is written is a prefix of the report, wherever a call ends. The cost is that of reading
+/// each line and making the key of each of its fields; a piece of the input, one line and their
 /// report are held.
 pub fn check_lines<R: Read, W: Write>(
     alloc: Global,
@@ -37,9 +37,9 @@ pub fn check_lines<R: Read, W: Write>(
 
 /// Checks lines as [`check_lines`] does, within a limit of reads.
 ///
-/// Each call of the reader is a read: one that a signal interrupted, and the one that gives no byte
-/// and so tells the end. `TooManyReads` is answered after `reads` of them none of which told the
-/// end, and no further call is made.
+/// Each call of the reader is a read, including one that a signal interrupted, and the one that
+/// gives no byte, which is the end. After `reads` of them without the end, it returns
+/// `TooManyReads`, and no further call is made.
 pub fn check_lines_within<R: Read, W: Write>(
     alloc: Global,
     input: &mut Counted<R>,

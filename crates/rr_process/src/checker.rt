@@ -21,7 +21,7 @@ pub(crate) struct Checker {
     precision: Precision,
     /// The time of a line without one.
     now: i64,
-    /// How many pieces came. They bound the lines, whose number therefore fits.
+    /// How many pieces came. They bound the number of lines, which therefore fits.
     pieces: u32,
     lines: u64,
     refused: u64,
@@ -33,7 +33,7 @@ pub(crate) struct Checker {
 impl Checker {
     ghost use Rattle.rr_process.specs.Checker.{CheckerMayTake, CheckerTakesPiece, IsNew, Reports, ReportsAll, WritesItems, WritesReport};
 
-    /// No line came yet.
+    /// A checker to which no line came yet.
     pub(crate) fn new(alloc: Global, precision: Precision, now: i64) -> Checker
         ensures { IsNew precision now result }
     {
@@ -48,7 +48,7 @@ impl Checker {
         }
     }
 
-    /// Takes in a piece.
+    /// Takes a piece.
     pub(crate) fn push(&mut self, piece: &[u8]) -> Result<(), AllocError>
         requires { CheckerMayTake self.old piece.now }
         ensures { OnOk result (CheckerTakesPiece self.old self.new piece.now) }
@@ -83,7 +83,7 @@ impl Checker {
         Ok(())
     }
 
-    /// The report of the items that can be handed out; they are counted.
+    /// The report of the items that can be handed out, which are counted.
     fn report(&mut self) -> Result<Vec<u8>, AllocError>
         ensures { IfOk result (λ text. ReportsAll self.old self.new text.items) }
     {
@@ -101,8 +101,8 @@ impl Checker {
         Ok(())
     }
 
-    /// Writes what is left to report once the input is at its end, has the writer pass all of it
-    /// on, and says how many lines were refused.
+    /// Writes what is left to report at the end of the input, flushes the writer, and returns how
+    /// many lines were refused.
     pub(crate) fn finish<W: Write>(&mut self, output: &mut Counted<W>) -> Result<u64, ToolFault>
         ensures { WritesReport W.contents self.old output.old output.new result }
     {

@@ -23,7 +23,7 @@ pub enum Ending {
     LoadRefused(&'static str),
     /// An address can't be listened on.
     BadAddress,
-    /// A node can't start or go on, for a reason that was told.
+    /// A node can't start or go on, for a reason that was reported.
     Stopped,
     /// The order can't be obeyed.
     Failed(ToolFault),
@@ -32,7 +32,7 @@ pub enum Ending {
 impl Ending {
     ghost use Rattle.rr_process.specs.Ending.{ending_of_lines, status_of};
 
-    /// The ending after lines, by how many of them were refused.
+    /// The ending after lines, by how many were refused.
     pub fn of_lines(refused: u64) -> Ending
         ensures { result ≡ ending_of_lines refused }
     {
@@ -43,7 +43,7 @@ impl Ending {
         }
     }
 
-    /// The status of the process.
+    /// The exit status of the process.
     pub fn status(&self) -> u8
         ensures { result ≡ status_of self.now }
     {
@@ -55,7 +55,8 @@ impl Ending {
         }
     }
 
-    /// Prints on standard error why the order isn't obeyed; nothing where it is.
+    /// Prints on standard error why the order isn't obeyed; nothing if it is, or if what it ended on
+    /// was told already.
     pub fn print(&self, rt: &impl Eprint) -> io::Result<()> {
         match self {
             Ending::Done | Ending::LinesRefused | Ending::DirectoryRefused | Ending::Stopped => {

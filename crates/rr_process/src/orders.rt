@@ -16,11 +16,11 @@ use rr_words::Order;
 use std::alloc::Global;
 use std::io::{Read, Write};
 
-/// Obeys an order over two streams: its script or its lines are what `input` still has, and what
-/// they print is written to `output`. An order to serve, or to read a directory, has no such streams:
-/// nothing is read or written.
+/// Obeys an order over two streams: its script or its lines are what is left in `input`, and what
+/// they print is written to `output`. An order to serve, or to read a directory, has no such
+/// streams: nothing is read or written.
 ///
-/// What is written is a prefix of that wherever a run ends.
+/// Wherever a run ends, what is written is a prefix of that.
 pub fn obey_order<R: Read, W: Write>(
     alloc: Global,
     order: &Order,

@@ -11,8 +11,8 @@ use std::io::ErrorKind;
 use std::rt::Files;
 use std::{fs, io};
 
-/// The fault of a file that can't be opened or read: memory ran out, or it is named on standard
-/// error.
+/// The fault of a file that can't be opened or read: out of memory, or the file is named on
+/// standard error.
 pub fn file_fault(rt: &impl Eprint, file: &str, error: &io::Error) -> ToolFault {
     match error.kind() {
         ErrorKind::OutOfMemory => ToolFault::Memory,
@@ -40,9 +40,9 @@ fn obey_over_streams(
     }
 }
 
-/// Obeys an order that has streams, and says how that ended. The output goes to standard output,
-/// and the input comes from standard input, or from the script's file where one is named. A file
-/// that can't be opened is named on standard error.
+/// Obeys an order that has streams, and returns how that ended. The output goes to standard output,
+/// and the input comes from standard input, or from the script's file if one is named. A file that
+/// can't be opened is named on standard error.
 pub fn obey(rt: &(impl AllocGlobal + Files + Input + Print + Eprint), order: &Order) -> Ending {
     match obey_over_streams(rt, order) {
         Ok(ending) => ending,
@@ -50,8 +50,8 @@ pub fn obey(rt: &(impl AllocGlobal + Files + Input + Print + Eprint), order: &Or
     }
 }
 
-/// Obeys the order of the process's own words, if it has streams, and says how that ended. Any
-/// other order has none, and nothing is done.
+/// Obeys the order given by the process's own words, if it has streams, and returns how that ended.
+/// For any other order nothing is done.
 pub fn run(rt: &(impl AllocGlobal + Env + Files + Input + Print + Eprint)) -> Ending {
     match read_order(rt) {
         Ok(order) => obey(rt, &order),

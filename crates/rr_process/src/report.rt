@@ -17,8 +17,8 @@ use rr_line::{Line, LineFault, Point, Precision, parse_line};
 use rr_text::refusal::push_refusal;
 use std::alloc::{AllocError, Global};
 
-/// Adds the samples of a point; one without a time is of the time `now`. Each key text is written
-/// over `key`, whose memory is used again.
+/// Adds the samples of a point; one without a time has the time `now`. Each key text is written
+/// over `key`, whose memory is reused.
 fn push_point(
     alloc: Global,
     report: &mut Vec<u8>,
@@ -42,7 +42,7 @@ fn push_point(
     Ok(())
 }
 
-/// Adds the refusal of the line of this number, unless memory ran out.
+/// Adds the refusal of the line with this number, unless memory ran out.
 fn push_fault(report: &mut Vec<u8>, number: u64, fault: LineFault) -> Result<(), AllocError>
     ensures pushed { OnOk result (report.new.items ≡ report.old.items
         ++ refusal_text number (line_fault_name fault)) }
@@ -54,7 +54,7 @@ fn push_fault(report: &mut Vec<u8>, number: u64, fault: LineFault) -> Result<(),
     }
 }
 
-/// Adds the report of the line of this number, and says whether it is refused.
+/// Adds the report of the line with this number, and returns whether it is refused.
 fn push_line(
     alloc: Global,
     report: &mut Vec<u8>,
@@ -82,7 +82,7 @@ fn push_line(
     }
 }
 
-/// Adds the report of the item of this number, and says whether it is refused.
+/// Adds the report of the item with this number, and returns whether it is refused.
 pub(crate) fn push_item(
     alloc: Global,
     report: &mut Vec<u8>,

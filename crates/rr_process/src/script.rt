@@ -14,9 +14,10 @@ use rr_io::Counted;
 use std::alloc::Global;
 use std::io::{Read, Write};
 
-/// Runs the script that `input` still has, read to its end, and writes what it prints to `output`.
+/// Runs the script left in `input`, read to its end, and writes what it prints to `output`.
 ///
-/// Nothing is written before the script is done. After `WriteFailed` a prefix of its output is.
+/// Nothing is written before the script is done. After `WriteFailed` a prefix of its output
+/// has been.
 pub fn run_script<R: Read, W: Write>(
     alloc: Global,
     input: &mut Counted<R>,

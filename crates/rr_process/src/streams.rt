@@ -11,7 +11,7 @@ use rr_io::stream::{flush, read_to_end, write_all};
 use std::alloc::Global;
 use std::io::{Read, Write};
 
-/// All that `input` still has.
+/// All that is left in `input`.
 pub fn read_script<R: Read>(alloc: Global, input: &mut Counted<R>) -> Result<Vec<u8>, ToolFault>
     ensures read { IfOk result (λ script. IfSome (R.remaining (inner_of input.old))
         (λ bytes. script.items ≡ bytes)) }
@@ -23,7 +23,7 @@ pub fn read_script<R: Read>(alloc: Global, input: &mut Counted<R>) -> Result<Vec
     Ok(script)
 }
 
-/// Writes the text whole, and has the writer pass on what it holds back of it.
+/// Writes the whole text, and flushes the writer.
 pub fn write_text<W: Write>(output: &mut Counted<W>, text: &[u8]) -> Result<(), ToolFault>
     ensures { WritesText W.contents output.old output.new text.now result }
 {

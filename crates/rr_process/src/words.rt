@@ -5,7 +5,7 @@ use std::env;
 use std::env::Env;
 use std::io::ErrorKind;
 
-/// The order of the process's own words.
+/// The order given by the process's own words.
 pub fn read_order(rt: &(impl AllocGlobal + Env)) -> Result<Order, WordsFault> {
     let alloc = rt.alloc();
     let all = match env::args(rt) {

@@ -5,25 +5,26 @@ use mio::{Interest, Poll, Token};
 use std::io;
 use std::net::{Net, SocketAddr};
 
-/// What is said over connections that came to an address.
+/// The protocol of connections to an address.
 #[derive(Clone, Copy, Debug, PartialEq, Eq)]
 pub(crate) enum Kind {
     Http,
     Lines,
 }
 
-/// The process has no file descriptor left, or the system has none.
+/// The process has no file descriptor left.
 const EMFILE: i32 = 24;
 
+/// The system has none left.
 const ENFILE: i32 = 23;
 
-/// What came of taking the next connection.
+/// What came of accepting the next connection.
 #[derive(Drop)]
 pub(crate) enum Accepted {
     Stream(TcpStream),
     /// One waits, and there is no file descriptor for it.
     NoDescriptor,
-    /// None waits, or it can't be taken.
+    /// None waits, or it can't be accepted.
     Nothing,
 }
 
@@ -59,7 +60,7 @@ impl Acceptor {
         self.listener.local_addr()
     }
 
-    /// The next connection, if one waits and can be taken.
+    /// The next connection, if one waits and can be accepted.
     pub(crate) fn accept(&mut self) -> Accepted {
         match self.listener.accept() {
             Ok((stream, _)) => Accepted::Stream(stream),

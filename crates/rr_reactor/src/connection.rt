@@ -1,4 +1,4 @@
-//! One connection: what is said over it, and its socket.
+//! One connection: its protocol and its socket.
 
 ghost use Rattle.std.specs.Prelude.{◌≡◌};
 ghost use Rattle.rr_reactor.specs.Connection.{GivesOne, GivesStep, IsOut, item_of};
@@ -12,24 +12,24 @@ use crate::socket::{Moved, Socket, moved_by};
 use crate::watch::{Candidate, Stage, Watch};
 use std::mem;
 
-/// A connection moves this many times before others get on.
+/// A connection moves this many times before others do.
 const STEPS: u64 = 8;
 
-/// What came of moving a connection on.
+/// What came of advancing a connection.
 #[derive(Debug, Drop)]
 pub(crate) enum Progress {
     /// This is asked for, and is out now.
     Work(Work),
     /// It waits for its socket, or for an answer.
     Waits,
-    /// It could be moved on at once.
+    /// It could advance again at once.
     Goes,
 }
 
 /// One connection.
 #[derive(Drop)]
 pub struct Connection<S> {
-    /// Its socket, until that has failed or was closed.
+    /// Its socket, until that fails or is closed.
     socket: Option<S>,
     protocol: Protocol,
     is_readable: bool,
@@ -38,13 +38,13 @@ pub struct Connection<S> {
     is_ending: bool,
     /// Whether all was received.
     has_ended: bool,
-    /// Whether what comes is let go, since nothing more is read.
+    /// Whether what comes is discarded, since nothing more is read.
     drains: bool,
-    /// Whether it is among those that could be moved on at once.
+    /// Whether it is among those that can advance at once.
     is_queued: bool,
     /// How many bytes are held for the item that is out, if one is.
     out: Option<usize>,
-    /// How many bytes were sent out of a buffer that has its room still.
+    /// How many bytes were sent from a buffer that still has its room.
     sent: usize,
     /// How many bytes came or went since its watch was set.
     moved: usize,
@@ -53,7 +53,7 @@ pub struct Connection<S> {
 }
 
 impl<S: Socket> Connection<S> {
-    /// A connection that has just come.
+    /// A new connection.
     pub fn new(socket: S, protocol: Protocol, now: u64) -> Connection<S>
         ensures { item_of result ≡ None }
     {
@@ -74,22 +74,22 @@ impl<S: Socket> Connection<S> {
         }
     }
 
-    /// Whether it may be forgotten: its socket is gone, and no item of it is out.
+    /// Whether it may be forgotten: its socket is gone, and its item isn't out.
     pub(crate) fn is_gone(&self) -> bool {
         self.socket.is_none() && self.out.is_none()
     }
 
-    /// Whether its time is over.
+    /// Whether its time is up.
     pub(crate) fn is_late(&self, limits: &Limits, now: u64) -> bool {
         self.watch.is_late(limits, now)
     }
 
-    /// Whether it could be read on, except that too much memory is held.
+    /// Whether it could be read on if less memory were held.
     pub(crate) fn is_held_up(&self) -> bool {
         self.out.is_none() && !self.is_queued && self.can_read()
     }
 
-    /// What it is among those that wait for memory.
+    /// Its entry among those that wait for memory, if it is one.
     pub(crate) fn waiter(&self, key: usize) -> Option<Waiter> {
         if self.is_held_up() {
             Some(Waiter {
@@ -102,25 +102,25 @@ impl<S: Socket> Connection<S> {
         }
     }
 
-    /// Notes that it is to be moved on again, or that it was, and says whether that was noted before.
+    /// Notes whether it is to be advanced again, and returns what was noted before.
     pub(crate) fn set_queued(&mut self, is_queued: bool) -> bool
         ensures { item_of self.new ≡ item_of self.old }
     {
         mem::replace(&mut self.is_queued, is_queued)
     }
 
-    /// Whether a request isn't read on, and the client has ended: it won't take the answer.
+    /// Whether its request isn't read further and the client has ended: it won't take the answer.
     pub(crate) fn is_left(&self) -> bool {
         self.is_ending && self.is_held_up() && matches!(self.protocol, Protocol::Http(_))
     }
 
-    /// What it is among those that may be let go for a new one.
+    /// Its entry among those that may be let go for a new one.
     pub(crate) fn candidate(&self, key: usize, now: u64) -> Option<Candidate> {
         self.watch.candidate(key, now)
     }
 
-    /// What it is among those that may be let go for the memory that is held for them: none while an item
-    /// of it is out, or it could be moved on at once.
+    /// Its entry among those that may be let go for the memory held for them: none while its item
+    /// is out, or it could advance at once.
     pub(crate) fn holder(&self, limits: &Limits, key: usize, now: u64) -> Option<Holder>
         ensures { IsOut self.now → result ≡ None }
     {
@@ -131,8 +131,8 @@ impl<S: Socket> Connection<S> {
         self.pace.holder(limits, key, self.held(), is_kept, now)
     }
 
-    /// How many bytes of memory are held for it and its item, counted as allocated: those that were sent
-    /// take room until all are.
+    /// How many bytes of memory are held for it and its item, as allocated: what was sent takes
+    /// room until all is.
     pub(crate) fn held(&self) -> usize {
         let sending = self.protocol.held().saturating_add(self.sent);
         sending.saturating_add(self.out.unwrap_or(0))
@@ -147,14 +147,14 @@ impl<S: Socket> Connection<S> {
         self.is_ending |= is_ending;
     }
 
-    /// Lets its socket go.
+    /// Drops its socket.
     pub(crate) fn close(&mut self)
         ensures { item_of self.new ≡ item_of self.old }
     {
         self.socket = None;
     }
 
-    /// Takes the answer to its item in.
+    /// Takes the answer to its item.
     pub(crate) fn answer(&mut self, outcome: Outcome)
         ensures { item_of self.new ≡ None }
     {
@@ -163,13 +163,13 @@ impl<S: Socket> Connection<S> {
         if !self.protocol.answer(outcome) {
             self.close();
         }
-        // What isn't sent was moved to the beginning of its buffer, where those that were sent were.
+        // What isn't sent was moved to the beginning of its buffer, over what was sent.
         if self.protocol.held() >= before {
             self.sent = 0;
         }
     }
 
-    /// Notes that this many bytes were sent. A buffer gives its room back when all are.
+    /// Notes that this many bytes were sent. A buffer frees its room once all are.
     fn note_sent(&mut self, count: usize)
         ensures { item_of self.new ≡ item_of self.old }
     {
@@ -196,12 +196,13 @@ impl<S: Socket> Connection<S> {
         }
     }
 
-    /// Takes in the first bytes, unless what comes is let go.
+    /// Takes in the first `count` bytes, unless what comes is discarded.
     fn take_in(&mut self, bytes: &[u8], count: usize)
         ensures { item_of self.new ≡ item_of self.old }
     {
         self.moved = self.moved.saturating_add(count);
-        // A socket that gave less than it might has no more, unless its end is still to be read.
+        // A socket that gave less than it could have has no more, unless its end is still to be
+        // read.
         if count < bytes.len() && !self.is_ending {
             self.is_readable = false;
         }
@@ -248,7 +249,7 @@ impl<S: Socket> Connection<S> {
         self.socket.is_some() && self.is_readable && (self.drains || self.protocol.wants_read())
     }
 
-    /// What is asked for next, if nothing is out. Then that is out.
+    /// What is asked for next, if nothing is out; it is out from then on.
     fn ask(&mut self) -> Option<Work>
         ensures { GivesOne (item_of self.old) result (item_of self.new) }
     {
@@ -268,8 +269,8 @@ impl<S: Socket> Connection<S> {
         }
     }
 
-    /// Ends it once nothing more is read and all is sent. What the other side still sends is let go,
-    /// since its socket would else lose what was sent.
+    /// Ends it once nothing more is read and all is sent. What the other side still sends is
+    /// discarded, since its socket would otherwise lose what was sent.
     fn finish(&mut self)
         ensures { item_of self.new ≡ item_of self.old }
     {
@@ -286,7 +287,7 @@ impl<S: Socket> Connection<S> {
         }
     }
 
-    /// Moves once: writes, asks, ends or reads, if there is room to read into.
+    /// Moves once: writes, asks, ends, or reads if there is room to read into.
     fn step(&mut self, scratch: &mut [u8]) -> Progress
         ensures { GivesStep (item_of self.old) result (item_of self.new) }
     {
@@ -309,7 +310,7 @@ impl<S: Socket> Connection<S> {
         }
     }
 
-    /// Moves on, until something is asked for or it has to wait.
+    /// Advances until something is asked for or it has to wait.
     fn move_on(
         &mut self,
         scratch: &mut [u8],
@@ -356,8 +357,8 @@ impl<S: Socket> Connection<S> {
         self.moved = 0;
     }
 
-    /// Moves on, where other connections hold so much memory and it stands so among those that wait for
-    /// some, and sets its watch.
+    /// Advances, with this much memory held by others and this rank among those that wait for some,
+    /// and sets its watch.
     pub(crate) fn pump(
         &mut self,
         scratch: &mut [u8],

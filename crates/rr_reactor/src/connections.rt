@@ -1,4 +1,4 @@
-//! All connections, by their keys.
+//! All connections, by key.
 
 ghost use Rattle.std.specs.Prelude.{◌≡◌, ◌+◌, ◌<◌, ◌≤◌};
 ghost use Rattle.std.specs.Bool.{OnTrue};
@@ -16,15 +16,15 @@ use slab::Slab;
 use std::alloc::{AllocError, Global};
 use std::collections::VecDeque;
 
-/// How many bytes are read at a time at most.
+/// The most bytes that are read at a time.
 const SCRATCH: usize = 64 * 1024;
 
-/// What was asked for, and is to be handed on.
+/// What was asked for and is still to be handed on.
 #[derive(Drop)]
 pub struct Asked {
-    /// To whoever keeps.
+    /// To the keeper.
     pub writes: VecDeque<Item>,
-    /// To whoever reads.
+    /// To the readers.
     pub fetches: VecDeque<Item>,
 }
 
@@ -37,26 +37,26 @@ pub struct Connections<S> {
     pub(crate) held: usize,
     scratch: Vec<u8>,
     asked: Asked,
-    /// The keys of those that can be moved on at once.
+    /// The keys of those that can advance at once.
     ready: VecDeque<usize>,
-    /// Whether one had to wait for memory since others were let go last, and how many bytes the longest
-    /// answer has that didn't fit.
+    /// Whether one had to wait for memory since others were last let go, and the bytes of the
+    /// longest answer that didn't fit.
     pub(crate) short: Option<usize>,
     /// Those that waited for memory at the last sweep, in their order.
     pub(crate) waiters: Vec<Waiter>,
     /// The key of the first of them, until it is gone.
     pub(crate) first: Option<usize>,
-    /// The least that a connection needs in all which had to wait for memory since then.
+    /// The least total need of those that had to wait for memory since then.
     pub(crate) least: usize,
     /// Whether the queue of writes is behind, and that of fetches.
     writes_behind: bool,
     fetches_behind: bool,
 }
 
-/// Why nothing was done where a queue is behind.
+/// Why nothing was done when a queue is behind.
 const BEHIND: &[u8] = b"{\"error\":\"the node is behind: nothing was written\"}\n";
 
-/// What is answered in place of an answer for which there is no room.
+/// Sent in place of an answer for which there is no room.
 const NO_ROOM: &[u8] = b"{\"error\":\"the node holds too many answers\"}\n";
 
 /// A short answer, in place of one that isn't given.
@@ -80,8 +80,8 @@ fn excuse(alloc: Global, status: u16, text: &[u8]) -> Result<Outcome, AllocError
     }))
 }
 
-/// What is answered in place of what doesn't fit. To what was asked it is 503; what was done keeps its
-/// status.
+/// What is answered in place of what doesn't fit: 503 if something was asked for; what was done
+/// keeps its status.
 fn no_room(alloc: Global, outcome: &Outcome) -> Outcome {
     let status = match outcome {
         Outcome::Reply(reply) if reply.status == 200 => 503,
@@ -92,7 +92,7 @@ fn no_room(alloc: Global, outcome: &Outcome) -> Outcome {
 }
 
 impl<S: Socket> Connections<S> {
-    /// None.
+    /// No connections.
     pub fn new(alloc: Global, limits: Limits) -> Result<Connections<S>, AllocError> {
         let asked = Asked {
             writes: VecDeque::with_capacity(alloc, limits.connections)?,
@@ -115,34 +115,34 @@ impl<S: Socket> Connections<S> {
         })
     }
 
-    /// What was asked for, and is to be handed on.
+    /// What was asked for and is still to be handed on.
     pub fn asked(&mut self) -> &mut Asked {
         &mut self.asked
     }
 
-    /// How many there are.
+    /// The number of connections.
     pub fn len(&self) -> usize
         ensures { result ≡ count_of self.now }
     {
         self.slab.len()
     }
 
-    /// Whether there is none.
+    /// Whether there are none.
     pub fn is_empty(&self) -> bool {
         self.slab.is_empty()
     }
 
-    /// How many bytes of memory are held for them.
+    /// The bytes of memory held for them.
     pub fn held(&self) -> usize {
         self.held
     }
 
-    /// Whether some could be moved on at once.
+    /// Whether some can advance at once.
     pub fn has_ready(&self) -> bool {
         !self.ready.is_empty()
     }
 
-    /// The key of the next one that comes.
+    /// The key of the next one to come.
     pub fn next_key(&self) -> usize {
         self.slab.vacant_key()
     }
@@ -153,7 +153,7 @@ impl<S: Socket> Connections<S> {
         self.fetches_behind = fetches;
     }
 
-    /// Takes one more in. It is let go if there is no memory for it.
+    /// Accepts one more. It is let go if there is no memory for it.
     pub fn admit(&mut self, socket: S, protocol: Protocol, now: u64)
         ensures count { count_of self.new ≤ count_of self.old + 1 }
         ensures most { most_of self.new ≡ most_of self.old }
@@ -171,7 +171,7 @@ impl<S: Socket> Connections<S> {
         is_behind && work.is_request()
     }
 
-    /// Notes what is to be handed on. There is room for an item of each connection.
+    /// Notes an item to be handed on. There is room for one of each connection.
     fn put(&mut self, item: Item) {
         let key = item.key;
         let put = if item.work.is_write() {
@@ -189,7 +189,7 @@ impl<S: Socket> Connections<S> {
         self.short = Some(self.short.unwrap_or(0).max(wanted));
     }
 
-    /// An answer, or if it doesn't fit another one that says so.
+    /// The answer, or if it doesn't fit, one that says so.
     fn fitting(&mut self, outcome: Outcome) -> Outcome {
         let wanted = outcome.held();
         if self.limits.takes(self.held, wanted) {
@@ -210,7 +210,7 @@ impl<S: Socket> Connections<S> {
         }
     }
 
-    /// Forgets one whose socket is gone, unless an item of it is out.
+    /// Forgets one whose socket is gone, unless its item is out.
     fn forget(&mut self, key: usize) {
         let is_gone = match self.slab.get(key) {
             Some(connection) => connection.is_gone(),
@@ -239,7 +239,7 @@ impl<S: Socket> Connections<S> {
         self.least = self.least.min(waiter.needs);
     }
 
-    /// Moves one on.
+    /// Advances one.
     fn move_one(&mut self, key: usize, now: u64) -> Progress {
         let rank = self.rank(key);
         let Some(connection) = self.slab.get_mut(key) else {
@@ -259,7 +259,7 @@ impl<S: Socket> Connections<S> {
         progress
     }
 
-    /// Moves one on, hands on what it asks for, and forgets it if it is gone.
+    /// Advances one, hands on what it asks for, and forgets it if it is gone.
     pub(crate) fn pump(&mut self, key: usize, now: u64) {
         match self.move_one(key, now) {
             Progress::Waits => {}
@@ -278,7 +278,7 @@ impl<S: Socket> Connections<S> {
         self.forget(key);
     }
 
-    /// Notes that one is to be moved on again, once. There is room for each.
+    /// Notes that one is to be advanced again, once. There is room for each.
     fn keep_ready(&mut self, key: usize) {
         let Some(connection) = self.slab.get_mut(key) else {
             return;
@@ -288,7 +288,7 @@ impl<S: Socket> Connections<S> {
         }
     }
 
-    /// Moves on those that could be moved on at once.
+    /// Advances those that can advance at once.
     pub fn go_on(&mut self, now: u64) {
         for _ in 0..self.ready.len() {
             let Some(key) = self.ready.pop_front() else {
@@ -301,8 +301,8 @@ impl<S: Socket> Connections<S> {
         }
     }
 
-    /// Goes on with the one whose socket is ready for this, and whose other side was seen to have
-    /// ended or not.
+    /// Advances the one whose socket is ready for this; `is_ending` says whether its other side was
+    /// seen to have ended.
     pub fn ready(
         &mut self,
         key: usize,
@@ -317,7 +317,7 @@ impl<S: Socket> Connections<S> {
         self.pump(key, now);
     }
 
-    /// Goes on with the one whose item came to this.
+    /// Passes an answer to its connection, and advances it.
     pub fn answer(&mut self, key: usize, outcome: Outcome, now: u64) {
         self.take_answer(key, outcome);
         self.pump(key, now);
@@ -330,8 +330,9 @@ impl<S: Socket> Connections<S> {
         }
         self.forget(key);
     }
-    /// Lets one go for a new one, and says whether there was one to let go: the one that was idle
-    /// longest, else the one whose request takes longest. The cost is linear in the connections.
+    /// Lets one go for a new one, and returns whether there was one to let go: the one idle
+    /// longest, else the one whose request has taken longest. The cost is linear in the
+    /// connections.
     pub fn let_one_go(&mut self, now: u64) -> bool {
         let mut first = None;
         for key in 0..self.slab.capacity() {
@@ -346,7 +347,8 @@ impl<S: Socket> Connections<S> {
         true
     }
 
-    /// Lets one go for a new one, if as many are there as may be, and says whether there is room.
+    /// Lets one go for a new one if there are as many as allowed, and returns whether there is
+    /// room.
     pub fn make_room(&mut self, now: u64) -> bool
         ensures { OnTrue result (count_of self.new < most_of self.new) }
     {

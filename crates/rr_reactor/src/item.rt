@@ -7,16 +7,16 @@ use rr_connection::{Piece, Reply, Request};
 pub enum Work {
     /// The answer to a request.
     Request(Request),
-    /// That lines are taken.
+    /// Lines to be taken.
     Piece(Piece),
 }
 
-/// What a connection asks for, with the key of the connection.
+/// What a connection asks for, with its key.
 #[derive(Debug, Drop)]
 pub struct Item {
     /// The key of the connection.
     pub key: usize,
-    /// The moment at which it was asked for, in milliseconds since the reactor began.
+    /// When it was asked for, in milliseconds since the reactor began.
     pub came: u64,
     /// What it asks for.
     pub work: Work,
@@ -44,7 +44,7 @@ impl Outcome {
     }
 }
 
-/// What comes of the item of a connection, by its key.
+/// What came of a connection's item, by its key.
 #[derive(Debug, Drop)]
 pub struct Answer {
     /// The key of the connection.
@@ -54,7 +54,7 @@ pub struct Answer {
 }
 
 impl Work {
-    /// Whether it is for whoever keeps.
+    /// Whether it is for the keeper.
     pub fn is_write(&self) -> bool {
         match self {
             Work::Request(request) => request.method.as_slice() == b"POST".as_slice(),

@@ -1,4 +1,4 @@
-//! One thread that owns all sockets of a node, and serves them as they get ready.
+//! One thread that owns all of a node's sockets, and serves them as they become ready.
 //!
 //! ```text
 //!             ┌── Poll: which sockets can be read or written, and a waker
@@ -6,31 +6,31 @@
 //!   │         └── Connections: a Connection for each socket, by its key
 //!   │ items, each with the key of its connection              ▲ answers, by key
 //!   ▼                                                         │
-//! Queues: writes, and pieces of lines ──> whoever keeps ──────┤
-//!         other requests ───────────────> whoever reads ──────┘
+//! Queues: writes, and pieces of lines ──> the keeper ─────────┤
+//!         other requests ───────────────> the readers ────────┘
 //! ```
 //!
 //! A connection has at most one item out, and keeps its key until that is answered. So a queue has
-//! at most as many items as there may be connections, and an answer finds the connection of its
-//! item without a number of its own. A slow client costs the bytes that it sent; one that takes too
-//! long is let go ([`Stage`], [`Limits`]), and the one that was idle longest where a new one needs
-//! its place, or its file descriptor. Where a queue is behind, a request is answered 503 at once.
+//! at most as many items as there may be connections, and an answer finds its connection without a
+//! number of its own. A slow client costs the bytes that it sent; one that takes too long is let go
+//! ([`Stage`], [`Limits`]), and so is the one idle longest when a new one needs its place or its
+//! file descriptor. When a queue is behind, a request is answered 503 at once.
 //!
-//! The memory of connections is bounded by [`Limits::held`], but for 8 KiB that each may send besides,
-//! and its answers of at most 8 KiB, of which some 64 KiB may wait. A longer answer that doesn't fit is
-//! answered 503. A request is read while as many bytes as it needs in all are left up to
-//! [`Limits::received`], and none waits that needs less: so large bodies leave room for small ones.
-//! A body whose head doesn't say its length needs as much as one may have. Those that wait get on each
-//! second, first the one that needs least, and of those that are alike the oldest; the first may take
-//! all that is left ([`Waiter`], [`Rank`]).
+//! The memory of connections is bounded by [`Limits::held`], except for another 8 KiB that each may
+//! send, and its answers of at most 8 KiB, of which some 64 KiB may wait. Instead of a longer answer
+//! that doesn't fit, a short one is sent: 503, unless something was done, whose status stays. A
+//! request is read while all the bytes that it needs are left below [`Limits::received`] and no
+//! waiter needs less, so large bodies leave room for small ones. A body whose head doesn't give its
+//! length needs as much as one may have. Waiters advance each second, the one that needs least
+//! first, and the oldest of equals; the first may take all that is left ([`Waiter`], [`Rank`]).
 //!
-//! Where one had no room so, stalled connections are let go within a second, first the one that holds
-//! most ([`Pace`], [`Holder`]): nothing moves, or too little, and no item of it is out. One that takes
-//! or brings enough in time isn't.
+//! When one finds no room, stalled connections are let go within a second, the one that holds most
+//! first ([`Pace`], [`Holder`]): those that move nothing, or too little, and have no item out. One
+//! that takes or sends enough in time isn't.
 //!
-//! [`Limits`], [`Waiter`], [`Stage`], [`Watch`] and [`Pace`] are functions of moments and counts, with contracts. Of
-//! sockets and threads nothing is known, so what serves them is proved to be safe, and that a
-//! connection gives an item only where none is out.
+//! [`Limits`], [`Waiter`], [`Stage`], [`Watch`] and [`Pace`] are functions of moments and counts,
+//! with contracts. Nothing is known of sockets and threads, so what serves them is proved safe, and
+//! to hand on an item of a connection only when none is out.
 #![tactic(auto)]
 
 mod acceptor;

@@ -1,4 +1,4 @@
-//! The order in which connections that wait for memory get on.
+//! The order in which connections that wait for memory advance.
 
 ghost use Rattle.std.specs.Prelude.{◌≡◌};
 ghost use Rattle.std.specs.List.Sorted.{IsPermutation};
@@ -11,7 +11,7 @@ pub struct Waiter {
     pub key: usize,
     /// How many bytes its request needs in all.
     pub needs: usize,
-    /// The moment since which those of its client are waited for, in milliseconds.
+    /// Since when it has waited for its client's bytes, in milliseconds.
     pub since: u64,
 }
 
@@ -20,12 +20,12 @@ pub struct Waiter {
 pub enum Rank {
     /// It is the first of them.
     First,
-    /// It isn't, and each of them needs at least so many bytes.
+    /// It isn't, and each of them needs at least this many bytes.
     Behind(usize),
 }
 
-/// Brings those that wait into their order: the one that needs least first, and of those that are
-/// alike the one that has waited longest.
+/// Sorts those that wait: the one that needs least first, and of equals the one that has waited
+/// longest.
 pub(crate) fn put_in_order(waiters: &mut [Waiter])
     ensures same { IsPermutation waiters.old waiters.new }
     ensures order { IsInOrder waiters.new }

@@ -1,4 +1,4 @@
-//! How fast connections get on, and which one is closed to make room for others.
+//! How fast connections move bytes, and which one is let go to make room for others.
 
 ghost use Rattle.std.specs.Prelude.{◌≡◌};
 ghost use Rattle.rr_reactor.specs.Pace.{IsFirstToFree, holder, is_stalled, paced, sum_moved};
@@ -14,7 +14,7 @@ pub struct Pace {
     pub moved: usize,
 }
 
-/// A connection that may be let go for the memory that is held for it.
+/// A connection that may be let go for the memory held for it.
 #[derive(Clone, Copy, Debug, PartialEq, Eq)]
 pub struct Holder {
     /// Its key.
@@ -25,14 +25,14 @@ pub struct Holder {
     pub is_kept: bool,
 }
 
-/// A connection is stalled that takes too long to move one of so many parts of what is held for it. At
-/// such a pace an answer wouldn't be through in its 30 seconds either.
+/// A connection is stalled if it takes too long to move one of this many parts of what is held for
+/// it. At that pace an answer wouldn't be through in its 30 seconds either.
 const PARTS: usize = 16;
 
 const _: () = prove!(PARTS == 16);
 
 impl Pace {
-    /// Of a connection that has just come.
+    /// The pace of a new connection.
     pub fn new(now: u64) -> Pace
         ensures { result ≡ record { since = now; moved = 0 } }
     {
@@ -42,8 +42,8 @@ impl Pace {
         }
     }
 
-    /// The pace after `moved` more bytes were received or sent, where `held` bytes of memory are held,
-    /// and `is_new` says whether the connection waits for another thing than before.
+    /// The pace after `moved` more bytes were received or sent, with `held` bytes of memory held;
+    /// `is_new` says whether the connection now waits for something else.
     pub fn note(self, is_new: bool, moved: usize, held: usize, now: u64) -> Pace
         ensures { result ≡ paced self is_new moved held now }
     {
@@ -65,7 +65,7 @@ impl Pace {
         now.saturating_sub(self.since) >= limits.stall
     }
 
-    /// Whether the connection of this key may be let go for the memory that is held for it: it is
+    /// Whether the connection with this key may be let go for the memory held for it: it is
     /// stalled, and holds more than 8 KiB.
     pub fn holder(
         self,
@@ -85,8 +85,8 @@ impl Pace {
     }
 }
 
-/// Which of two connections is let go first: one whose client stalls, and of two that are alike the one
-/// that holds more.
+/// Which of two connections is let go first: one whose client stalls, and of equals the one that
+/// holds more.
 pub(crate) fn first_to_free(first: Option<Holder>, second: Option<Holder>) -> Option<Holder>
     ensures { IsFirstToFree first second result }
 {

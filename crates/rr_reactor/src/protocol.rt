@@ -1,4 +1,4 @@
-//! What is said over a connection.
+//! The protocol of a connection.
 
 use crate::item::{Outcome, Work};
 use crate::limits::SMALL;
@@ -7,7 +7,7 @@ use crate::watch::Stage;
 use rr_connection::{Found, HttpConnection, LineConnection, PIECE};
 use std::alloc::AllocError;
 
-/// What is said over a connection.
+/// The protocol of a connection.
 #[derive(Drop)]
 pub enum Protocol {
     /// Requests of HTTP/1.1.
@@ -41,7 +41,7 @@ impl Protocol {
         }
     }
 
-    /// What the client's next bytes are a part of.
+    /// What the client's next bytes are part of.
     pub(crate) fn stage(&self) -> Stage {
         match self {
             Protocol::Http(http) if http.is_within_body() => Stage::Upload,
@@ -58,8 +58,8 @@ impl Protocol {
         }
     }
 
-    /// How many bytes what it receives needs in all: as many as a body has, or a piece of lines may
-    /// have. Before a body that is unknown, and 8 KiB at a time are enough.
+    /// How many bytes it needs in all for what it receives: the size of a body, or the most that a
+    /// piece of lines may have. Before a body that is unknown, and 8 KiB at a time are enough.
     pub(crate) fn needs(&self) -> usize {
         match self {
             Protocol::Http(http) if http.is_within_body() => http.body_size().max(SMALL),
@@ -68,7 +68,7 @@ impl Protocol {
         }
     }
 
-    /// Takes in the first bytes.
+    /// Takes in the first `count` of these bytes.
     pub(crate) fn receive(&mut self, bytes: &[u8], count: usize) -> Result<(), AllocError> {
         let Some(came) = bytes.get(..count) else {
             return Ok(());
@@ -101,11 +101,11 @@ impl Protocol {
         }
     }
 
-    /// Takes an answer in, and says whether it could.
+    /// Takes an answer, and returns whether that succeeded.
     pub(crate) fn answer(&mut self, outcome: Outcome) -> bool {
         match (self, outcome) {
             (Protocol::Http(http), Outcome::Reply(reply)) => {
-                // Where that fails the connection ends by itself, once what came before it is sent.
+                // If that fails, the connection ends by itself once what came before is sent.
                 let _answered = http.answer(&reply);
                 true
             }

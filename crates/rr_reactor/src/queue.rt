@@ -13,12 +13,12 @@ use std::time::{Clock, Duration};
 pub(crate) struct Waiting {
     items: VecDeque<Item>,
     bytes: usize,
-    /// Whether whoever waits is to look up, though no item came.
+    /// Whether whoever waits is to wake, though no item came.
     is_nudged: bool,
 }
 
 impl Waiting {
-    /// None, with room for this many.
+    /// No items, with room for this many.
     fn new(alloc: Global, room: usize) -> Result<Waiting, AllocError>
         ensures { IfOk result (λ w. w.items.items ≡ []) }
     {
@@ -29,7 +29,7 @@ impl Waiting {
         })
     }
 
-    /// Puts one behind the others.
+    /// Appends one.
     fn put(&mut self, item: Item) -> Result<(), AllocFailed<Item>>
         ensures ok { OnOk result (self.new.items.items ≡ self.old.items.items ++ item ∷ []) }
         ensures err { OnErr result (self.new.items.items ≡ self.old.items.items) }
@@ -50,7 +50,7 @@ impl Waiting {
         Some(item)
     }
 
-    /// How many bytes are held for those that wait, and the moment at which the first came.
+    /// How many bytes are held for those that wait, and when the first came.
     fn load(&self) -> Load {
         Load {
             bytes: self.bytes,
@@ -84,7 +84,7 @@ impl Queue {
         })
     }
 
-    /// Puts all of these behind the others, in their order. What has no room stays.
+    /// Appends all of these, in their order. What has no room stays in `items`.
     pub(crate) fn put_all<R: Wait>(&self, rt: &R, items: &mut VecDeque<Item>) {
         let count = items.len();
         if count == 0 {
@@ -110,7 +110,7 @@ impl Queue {
         }
     }
 
-    /// How many wait in it.
+    /// How many items wait in it.
     pub fn len<R: Wait>(&self, rt: &R) -> usize {
         self.waiting.lock(rt).items.len()
     }
@@ -125,13 +125,13 @@ impl Queue {
         self.waiting.lock(rt).load()
     }
 
-    /// Has whoever waits for an item look up, once, though none came.
+    /// Wakes whoever waits for an item, once, though none came.
     pub fn nudge<R: Wait>(&self, rt: &R) {
         self.waiting.lock(rt).is_nudged = true;
         self.changed.notify_one();
     }
 
-    /// Waits for the first item, for at most so long or until it is nudged, and takes it.
+    /// Waits for the first item, for at most `timeout` or until nudged, and takes it.
     pub fn take<R: Wait + Clock>(&self, rt: &R, timeout: Duration) -> Option<Item> {
         let (mut waiting, _timed_out) = self
             .changed

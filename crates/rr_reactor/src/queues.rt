@@ -11,9 +11,9 @@ use std::sync::{Mutex, Wait};
 /// What a reactor shares with those who answer.
 #[derive(Drop)]
 pub struct Queues {
-    /// What whoever keeps is asked: requests to write, and pieces of lines.
+    /// What the keeper is asked: requests to write, and pieces of lines.
     pub writes: Queue,
-    /// What whoever reads is asked: other requests.
+    /// What the readers are asked: other requests.
     pub fetches: Queue,
     answers: Mutex<Vec<Answer>>,
     waker: Waker,
@@ -40,7 +40,7 @@ impl Queues {
         })
     }
 
-    /// Gives an answer back, and wakes the reactor if it is the first that waits there.
+    /// Hands an answer back, and wakes the reactor if it is the first to wait there.
     pub fn answer<R: Wait>(&self, rt: &R, answer: Answer) {
         let is_first = {
             let mut answers = self.answers.lock(rt);
@@ -50,18 +50,18 @@ impl Queues {
             is_first
         };
         if is_first {
-            // A reactor that isn't woken looks within a second.
+            // A reactor that isn't woken still looks within a second.
             let _woken = self.waker.wake();
         }
     }
 
-    /// Takes all answers, in exchange for a list that has none.
+    /// Takes all answers in exchange for an empty list.
     pub(crate) fn exchange_answers<R: Wait>(&self, rt: &R, none: &mut Vec<Answer>) {
         let mut answers = self.answers.lock(rt);
         mem::swap(&mut *answers, none);
     }
 
-    /// Says how many connections there are, and how many bytes of memory are held for them.
+    /// Sets how many connections there are, and how many bytes of memory are held for them.
     pub(crate) fn tell(&self, connections: usize, held: usize) {
         self.connections.store(connections, Ordering::SeqCst);
         self.held.store(held, Ordering::SeqCst);
@@ -77,7 +77,7 @@ impl Queues {
         self.held.load(Ordering::SeqCst)
     }
 
-    /// Ends the reactor, and those who answer.
+    /// Tells the reactor, and those who answer, to end.
     pub fn halt(&self) {
         self.is_halted.store(true, Ordering::SeqCst);
         let _woken = self.waker.wake();

@@ -19,7 +19,7 @@ use std::time::{Clock, Duration, Instant};
 /// How many events are taken at a time.
 const EVENTS: usize = 256;
 
-/// How often times are looked at, in milliseconds.
+/// How often times are checked, in milliseconds.
 const SWEEP: u64 = 1_000;
 
 const WAKER: usize = 0;
@@ -54,7 +54,7 @@ fn is_behind(limits: &Limits, load: Load, now: u64) -> bool {
     limits.is_behind(load.bytes, wait)
 }
 
-/// What is said over a connection of this kind.
+/// The protocol of a connection of this kind.
 fn protocol_of(alloc: Global, limits: &Limits, kind: Kind) -> Protocol {
     match kind {
         Kind::Http => Protocol::Http(HttpConnection::new(
@@ -66,7 +66,7 @@ fn protocol_of(alloc: Global, limits: &Limits, kind: Kind) -> Protocol {
     }
 }
 
-/// The next connection that waits at a listener. Where there is no file descriptor for it, another one
+/// The next connection that waits at a listener. If there is no file descriptor for it, another one
 /// is let go, once.
 fn accept_one(
     acceptor: &mut Acceptor,
@@ -83,7 +83,7 @@ fn accept_one(
     }
 }
 
-/// Takes in the connections that wait at a listener, while there is room.
+/// Accepts the connections that wait at a listener, while there is room.
 fn accept_all(
     alloc: Global,
     limits: &Limits,
@@ -109,7 +109,7 @@ fn accept_all(
 }
 
 impl Reactor {
-    /// Listens for HTTP at one address, and for lines at another one, if there is one.
+    /// Listens for HTTP at one address, and for lines at another if given.
     pub fn new<R: Net + AllocGlobal>(
         rt: &R,
         limits: Limits,
@@ -147,7 +147,7 @@ impl Reactor {
         self.http.address()
     }
 
-    /// Goes on with what is ready.
+    /// Advances what is ready.
     fn take_events(&mut self, events: &Events, now: u64) {
         for event in events {
             match event.token().0 {
@@ -183,7 +183,7 @@ impl Reactor {
         }
     }
 
-    /// Takes in the connections that wait.
+    /// Accepts the connections that wait.
     fn accept(&mut self, now: u64) {
         let (alloc, limits) = (self.alloc, &self.limits);
         let (poll, connections) = (&self.poll, &mut self.connections);
@@ -205,7 +205,7 @@ impl Reactor {
         queues.tell(self.connections.len(), self.connections.held());
     }
 
-    /// Waits until something is ready, and goes on with it.
+    /// Waits until something is ready, and advances it.
     fn round<R: Wait + Clock>(
         &mut self,
         rt: &R,

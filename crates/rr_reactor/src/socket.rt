@@ -4,9 +4,9 @@ use mio::net::TcpStream;
 use std::io::{ErrorKind, Read, Write};
 use std::net::Shutdown;
 
-/// A socket that answers `WouldBlock` where it would wait.
+/// A socket that returns `WouldBlock` where it would wait.
 pub trait Socket: Read + Write + Drop {
-    /// Ends what is sent.
+    /// Ends sending.
     fn end(&mut self);
 }
 
@@ -23,9 +23,9 @@ pub(crate) enum Moved {
     Bytes(usize),
     /// The other side has ended.
     End,
-    /// None can move now.
+    /// Nothing can move now.
     Later,
-    /// A signal came between.
+    /// A signal interrupted it.
     Again,
     /// The connection has failed.
     Failed,

@@ -1,16 +1,15 @@
-//! What is done for all connections each second: who is let go, and who gets on.
+//! What is done for all connections each second: which are let go, and which advance.
 
 use crate::connections::Connections;
 use crate::order::put_in_order;
 use crate::pace::{Holder, first_to_free};
 use crate::socket::Socket;
 
-/// So many are let go at a sweep, at most, for the memory that is held for them.
+/// At most this many are let go in one sweep for the memory held for them.
 const LET_GO: usize = 64;
 
 impl<S: Socket> Connections<S> {
-    /// The one that is let go first for the memory that is held for it. The cost is linear in the
-    /// connections.
+    /// The first to be let go for the memory held for it. The cost is linear in the connections.
     fn first_holder(&self, now: u64) -> Option<Holder> {
         let mut first = None;
         for key in 0..self.slab.capacity() {
@@ -21,8 +20,8 @@ impl<S: Socket> Connections<S> {
         first
     }
 
-    /// Lets stalled ones go where others had no room, 64 at most, and one that is kept waiting if there
-    /// is no other.
+    /// Lets at most 64 stalled ones go when others had no room, and one that is kept waiting if no
+    /// other is left.
     fn free_memory(&mut self, now: u64) {
         let Some(wanted) = self.short.take() else {
             return;
@@ -41,7 +40,8 @@ impl<S: Socket> Connections<S> {
         }
     }
 
-    /// Lets those go whose time is over, and those that wait for memory and whose client has ended.
+    /// Lets go of those whose time is up, and those whose request waits for memory while their
+    /// client has ended.
     fn end_late(&mut self, now: u64) {
         for key in 0..self.slab.capacity() {
             let is_due = match self.slab.get(key) {
@@ -67,8 +67,8 @@ impl<S: Socket> Connections<S> {
         put_in_order(self.waiters.as_mut_slice());
     }
 
-    /// Goes on with those that wait for memory, in their order. What the first of them needs it may
-    /// take until the next sweep, if there is room.
+    /// Advances those that wait for memory, in their order. Until the next sweep the first may take
+    /// what it needs, if there is room.
     fn serve_waiters(&mut self, now: u64) {
         self.note_waiters();
         self.first = self.waiters.first().map(|waiter| waiter.key);
@@ -81,9 +81,9 @@ impl<S: Socket> Connections<S> {
         }
     }
 
-    /// Lets those go whose time is over, and stalled ones where others had no room; then goes on with
-    /// those that had to wait for memory. The cost is linear in the connections, for each one that is
-    /// let go for its memory, and that of sorting those that wait.
+    /// Lets go of those whose time is up, and of stalled ones when others had no room; then
+    /// advances those that wait for memory. The cost is linear in the connections for each one let
+    /// go for its memory, plus that of sorting those that wait.
     pub fn sweep(&mut self, now: u64) {
         self.free_memory(now);
         self.end_late(now);

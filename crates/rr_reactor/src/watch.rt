@@ -16,9 +16,9 @@ pub enum Stage {
     Upload,
     /// The answer to its item, which is up to this side.
     Answer,
-    /// That the client takes what is to be sent.
+    /// The client, to take what is to be sent.
     Download,
-    /// That the client ends, after its request was refused.
+    /// The client, to end after its request was refused.
     Refused,
 }
 
@@ -27,7 +27,7 @@ pub enum Stage {
 pub struct Watch {
     /// What it waits for.
     pub stage: Stage,
-    /// The moment since which it does, in milliseconds.
+    /// Since when it has waited, in milliseconds.
     pub since: u64,
 }
 
@@ -38,18 +38,18 @@ pub struct Candidate {
     pub key: usize,
     /// Whether it is silent: nothing of a request was received.
     pub is_idle: bool,
-    /// The moment since which it waits, in milliseconds.
+    /// Since when it has waited, in milliseconds.
     pub since: u64,
 }
 
-/// A connection that waits for a client's bytes is let go for a new one after this many milliseconds
-/// at the earliest, unless it is idle.
+/// Unless idle, a connection that waits for a client's bytes is let go for a new one only after
+/// this many milliseconds.
 const GRACE: u64 = 1_000;
 
 const _: () = prove!(GRACE == 1_000);
 
 impl Stage {
-    /// For how long a connection may wait so; none where that is up to this side.
+    /// How long a connection may wait at this stage; none if that is up to this side.
     fn allowed(self, limits: &Limits) -> Option<u64>
         ensures { result ≡ allowed limits.now self }
     {
@@ -64,7 +64,7 @@ impl Stage {
 }
 
 impl Watch {
-    /// A connection that has just come.
+    /// The watch of a new connection.
     pub fn new(now: u64) -> Watch
         ensures { result ≡ record { stage = Stage.Idle; since = now } }
     {
@@ -74,8 +74,8 @@ impl Watch {
         }
     }
 
-    /// What the connection waits for now, where `has_moved` says whether bytes came or went since it
-    /// was asked last. Bytes give no more time, except to a connection that is idle.
+    /// The watch of a connection that is now at `stage`; `has_moved` says whether bytes came or
+    /// went since the last call. Bytes give more time only to an idle connection.
     pub fn note(self, stage: Stage, has_moved: bool, now: u64) -> Watch
         ensures { result ≡ noted self stage has_moved now }
     {
@@ -86,7 +86,7 @@ impl Watch {
         }
     }
 
-    /// Whether the time is over.
+    /// Whether the time is up.
     pub fn is_late(self, limits: &Limits, now: u64) -> bool
         ensures { result ≡ is_late limits.now self now }
     {
@@ -96,8 +96,8 @@ impl Watch {
         }
     }
 
-    /// Whether the connection of this key may be let go for a new one, and how soon: not while it is
-    /// answered, and not in the first second of a request.
+    /// Whether the connection with this key may be let go for a new one, and how soon: not while it
+    /// is answered, nor in the first second of a request.
     pub fn candidate(self, key: usize, now: u64) -> Option<Candidate>
         ensures { result ≡ candidate self key now }
     {
@@ -115,8 +115,8 @@ impl Watch {
     }
 }
 
-/// Which of two connections is let go first: one that is idle, and of two that are alike the one that
-/// has waited longer.
+/// Which of two connections is let go first: one that is idle, and of equals the one that has
+/// waited longer.
 pub(crate) fn first_to_go(first: Option<Candidate>, second: Option<Candidate>) -> Option<Candidate>
     ensures { IsFirstToGo first second result }
 {

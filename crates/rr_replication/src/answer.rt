@@ -15,7 +15,7 @@ pub const ID_FIELD: &[u8] = b"rr-journal-id";
 /// The field with the offset in bytes up to which a journal is synced, in decimal digits.
 pub const END_FIELD: &[u8] = b"rr-journal-end";
 
-/// What a peer answers to what it is asked.
+/// What a peer answers to a request.
 #[derive(Debug, Drop)]
 pub struct PeerAnswer {
     /// The status.
@@ -28,7 +28,7 @@ pub struct PeerAnswer {
     pub body: Vec<u8>,
 }
 
-/// The value of the first field of a name among those of a head, in whatever case.
+/// The value of the first field with this name in a head, ignoring case.
 fn value_of<'a>(input: &'a [u8], headers: &[HeaderSpan], name: &[u8]) -> Option<&'a [u8]>
     requires { All (IsHeaderWithin (length input.now)) headers.now }
 {
@@ -40,7 +40,7 @@ fn value_of<'a>(input: &'a [u8], headers: &[HeaderSpan], name: &[u8]) -> Option<
     None
 }
 
-/// The id that a value has in hexadecimal digits, if it has one.
+/// The id that a value gives in hexadecimal digits, if it gives one.
 fn id_in(value: &[u8]) -> Option<[u8; ID_LEN]> {
     match <[u8; ID_LEN]>::from_hex(value) {
         Ok(id) => Some(id),
@@ -49,7 +49,7 @@ fn id_in(value: &[u8]) -> Option<[u8; ID_LEN]> {
 }
 
 impl PeerAnswer {
-    /// The answer with this status whose head's fields are there in the input, before its body comes.
+    /// The answer with this status and these fields of the input, before its body comes.
     pub(crate) fn begin(
         alloc: Global,
         input: &[u8],

@@ -31,7 +31,7 @@ fn cell_of(group: &Group, cell: &(i64, Entry)) -> Result<Cell, AllocError>
     })
 }
 
-/// Adds the cells of a group behind others.
+/// Appends the cells of a group.
 fn push_group(group: &Group, schema: &Schema, cells: &mut Vec<Cell>) -> Result<(), PartFault>
     requires { IsCheckedGroup schema.now (packed_cells group.now) }
     ensures { Adds schema.now cells.old.items cells.new.items
@@ -40,14 +40,14 @@ fn push_group(group: &Group, schema: &Schema, cells: &mut Vec<Cell>) -> Result<(
     let mut packed = Decoder::new(&group.packed)?;
     while let Some(entry) = packed.next()? {
         let cell = cell_of(group, &entry)?;
-        // The proof needs that this is a cell of the schema.
+        // The proof needs this to be a cell of the schema.
         let _is_of = cell.is_of(schema);
         cells.push(cell)?;
     }
     Ok(())
 }
 
-/// Adds the cells of groups behind others, in order.
+/// Appends the cells of groups, in order.
 fn push_groups(groups: &[Group], schema: &Schema, cells: &mut Vec<Cell>) -> Result<(), PartFault>
     requires { AllByRecursion (IsCheckedGroup schema.now) (map packed_cells groups.now) }
     ensures { Adds schema.now cells.old.items cells.new.items
@@ -71,8 +71,8 @@ fn meaning_of(alloc: Global, raw: &RawRecord, schema: &Schema) -> Result<Record,
     }
 }
 
-/// Adds the cells of a record behind others, in order, or refuses one that means nothing. An
-/// origin, a cursor and an end have none.
+/// Appends the cells of a record, in order, or refuses one that means nothing. An origin, a cursor
+/// and an end have none.
 pub(crate) fn push_record(
     alloc: Global,
     raw: &RawRecord,

@@ -12,7 +12,7 @@ use std::io::{Read, Write};
 /// A head has at most this many fields.
 const MAX_FIELDS: usize = 64;
 
-/// How many bytes are read at a time at most.
+/// The most bytes that are read at a time.
 const PIECE: usize = 65_536;
 
 /// What is known after one event of the input.
@@ -25,7 +25,7 @@ enum Step {
     Whole,
 }
 
-/// A connection to a peer, over which it is asked by HTTP/1.1, one request after the other.
+/// A connection to a peer, over which it is asked by HTTP/1.1, one request after another.
 #[derive(Drop)]
 pub struct PeerConnection<I, O> {
     alloc: Global,
@@ -43,7 +43,7 @@ fn request_fault(error: WriteError) -> PeerFault {
     }
 }
 
-/// Whether a body is said to have more bytes than a part.
+/// Whether a body is declared to be longer than a part may be.
 fn is_too_long(size: BodySize) -> bool {
     match size {
         BodySize::Known(len) => len > MAX_PART,
@@ -51,7 +51,7 @@ fn is_too_long(size: BodySize) -> bool {
     }
 }
 
-/// Adds a piece to the body of an answer, which has no more bytes than a part.
+/// Appends a piece to the body of an answer, which may be no longer than a part.
 fn push_body(answer: &mut Option<PeerAnswer>, piece: &[u8]) -> Result<(), PeerFault> {
     let Some(answer) = answer else {
         return Err(PeerFault::BadAnswer);
@@ -65,7 +65,7 @@ fn push_body(answer: &mut Option<PeerAnswer>, piece: &[u8]) -> Result<(), PeerFa
 }
 
 impl<I: Read, O: Write> PeerConnection<I, O> {
-    /// A connection over two streams, that of what the peer sends and that of what is sent to it.
+    /// A connection over two streams: what the peer sends, and what is sent to it.
     pub fn new(alloc: Global, input: I, output: O) -> PeerConnection<I, O> {
         PeerConnection {
             alloc,
@@ -108,7 +108,7 @@ impl<I: Read, O: Write> PeerConnection<I, O> {
         }
     }
 
-    /// Goes on with an answer by one event.
+    /// Advances an answer by one event.
     fn step(&mut self, answer: &mut Option<PeerAnswer>) -> Result<Step, PeerFault> {
         let mut headers = [EMPTY_HEADER_SPAN; MAX_FIELDS];
         let Ok(read) = self.http.read(self.unread.as_slice(), &mut headers) else {
@@ -153,11 +153,13 @@ impl<I: Read, O: Write> PeerConnection<I, O> {
         }
     }
 
-    /// Asks the peer for a target, and answers what it answers: a body of at most [`MAX_PART`] bytes.
+    /// Asks the peer for a target, and returns its answer, with a body of at most [`MAX_PART`]
+    /// bytes.
     ///
-    /// Refused as `WriteFailed`, `ReadFailed` and `Ended` by what the streams do; as `BadAnswer` where
-    /// what comes is no answer of HTTP/1.1, or has a longer body; as `BadAddress` where host or target
-    /// can't stand in a request; and as `Memory`. After a refusal the connection is of no further use.
+    /// Refused as `WriteFailed`, `ReadFailed` and `Ended` by what the streams do; as `BadAnswer` if
+    /// what comes isn't an HTTP/1.1 answer, or has a longer body; as `BadAddress` if the host or
+    /// the target can't stand in a request; and as `Memory`. After a refusal the connection is of
+    /// no further use.
     pub fn ask(&mut self, host: &[u8], target: &[u8]) -> Result<PeerAnswer, PeerFault> {
         self.send(host, target)?;
         self.receive()

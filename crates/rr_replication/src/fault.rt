@@ -11,8 +11,8 @@ use thiserror::Error;
 /// Why a part of a peer's journal is refused.
 #[derive(Clone, Copy, Debug, PartialEq, Eq, Error)]
 pub enum PartFault {
-    /// It doesn't chain to what was read before, or not within itself: it has bytes, but no whole
-    /// record, or more bytes behind the last one than a record may have.
+    /// It doesn't chain to what was read before, or within itself: it has bytes but no whole
+    /// record, or more bytes after the last one than a record may have.
     Damaged,
     /// A whole record means nothing.
     BadRecord(JournalFault),

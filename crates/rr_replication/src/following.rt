@@ -20,32 +20,33 @@ use rr_recovery::put_cursor;
 use rr_schema::Schema;
 use std::alloc::{AllocError, Global};
 
-/// What an answer came to.
+/// What came of an answer.
 #[derive(Clone, Copy, Debug, PartialEq, Eq)]
 pub enum Next {
     /// There is more: the peer is to be asked again at once. Cells may have come.
     More {
-        /// Up to where the peer's journal is read, once what came is joined: worth a record if cells
-        /// came. Nothing while a checkpoint is read.
+        /// How far the peer's journal is read once what came is joined: worth a record if cells
+        /// came. None while a checkpoint is read.
         read: Option<Cursor>,
     },
     /// There is nothing new.
     UpToDate,
 }
 
-/// How far a node has read the store of a peer: its journal, behind its newest checkpoint if need be.
+/// How far a node has read the store of a peer: its journal, after its newest checkpoint if need
+/// be.
 #[derive(Drop)]
 pub struct Following {
     alloc: Global,
     /// How far the journals of peers were read before, by their ids.
     known: Vec<Cursor>,
-    /// Where the node is, if the peer was greeted once.
+    /// Where the node is, once the peer has been greeted.
     position: Option<Position>,
-    /// The id of the peer's journal, as it was told last.
+    /// The id of the peer's journal, as last told.
     id: [u8; ID_LEN],
     /// Whether the peer was greeted over this connection.
     is_greeted: bool,
-    /// Whether a checkpoint was begun, and the journal wasn't gone on with since.
+    /// Whether a checkpoint was begun, and the journal hasn't been continued since.
     is_beginning: bool,
 }
 
@@ -77,7 +78,7 @@ fn header_fault(fault: JournalFault) -> PeerFault {
     }
 }
 
-/// What is there for a status that is no answer of a node that follows the rules.
+/// The fault of any other status: another schema, or an answer that no node gives.
 fn status_fault(status: u16) -> PeerFault {
     match status {
         409 => PeerFault::SchemaDiffers,
@@ -85,7 +86,7 @@ fn status_fault(status: u16) -> PeerFault {
     }
 }
 
-/// The first of these cursors that is of the journal of an id.
+/// The first of these cursors that is of the journal with this id.
 fn cursor_of(cursors: &[Cursor], id: [u8; ID_LEN]) -> Option<Cursor>
     ensures { result ≡ find (λ c. pointwise nat_eq c.id id) cursors.now }
 {
@@ -97,7 +98,7 @@ impl Following {
     ghost use Rattle.rr_replication.specs.declared.following.Next.TheVariants.{More};
     ghost use Rattle.rr_replication.specs.Following.{IsAtEnd, IsBegun, IsGreeted, IsReadOn, after_journal, asked_checkpoint, asked_place, asked_position, asked_target, asks_newest, known_place, places_of};
 
-    /// Follows a peer from where the journal of its id was read up to, if that is one of these, and
+    /// Follows a peer from where the journal with its id was read up to, if that is among `known`,
     /// else from the beginning.
     pub fn new(alloc: Global, known: Vec<Cursor>) -> Following {
         Following {
@@ -110,12 +111,12 @@ impl Following {
         }
     }
 
-    /// Notes that another connection is begun, over which the peer is to be greeted first.
+    /// Notes that a new connection is begun, over which the peer is to be greeted first.
     pub fn reconnect(&mut self) {
         self.is_greeted = false;
     }
 
-    /// Whether a checkpoint is read.
+    /// Whether a checkpoint is being read.
     pub fn is_in_checkpoint(&self) -> bool {
         matches!(
             self.position,
@@ -133,7 +134,7 @@ impl Following {
         }
     }
 
-    /// Where the journal of an id was read up to, or where it begins.
+    /// Where the journal with this id was read up to, or where it begins.
     fn known_place(&self, id: [u8; ID_LEN]) -> Cursor
         ensures { result ≡ known_place self.now.known.items id }
     {
@@ -143,7 +144,7 @@ impl Following {
         }
     }
 
-    /// Keeps how far the journal is read that the node is in, in place of what was known of it.
+    /// Replaces what was known of the journal that the node is in by how far it is read.
     fn keep_place(&mut self) -> Result<(), AllocError>
         ensures known { OnOk result (self.new.known.items ≡ places_of self.old) }
         ensures position { self.new.position ≡ self.old.position }
@@ -155,8 +156,8 @@ impl Following {
         put_cursor(&mut self.known, place)
     }
 
-    /// Takes the answer to a greeting: where the peer's journal is. Another one than before is begun
-    /// with where it was read up to.
+    /// Takes the answer to a greeting: where the peer's journal is. A journal other than before is
+    /// continued from where it was read up to.
     fn take_greeting(&mut self, answer: &PeerAnswer) -> Result<Next, PeerFault>
         ensures { IfOk result (IsGreeted self.old answer.now self.new) }
     {
@@ -175,8 +176,8 @@ impl Following {
         Ok(Next::More { read: None })
     }
 
-    /// Begins with the newest checkpoint, since the peer has no more the bytes that were asked for. A
-    /// peer of which that is so again and again isn't followed at once.
+    /// Begins with the newest checkpoint, since the peer no longer has the bytes that were asked
+    /// for. A peer for which this recurs isn't followed at once.
     fn begin_again(&mut self) -> Result<Next, PeerFault>
         ensures next { IfOk result (λ next. next ≡ More None) }
         ensures position { self.new.position ≡ Some Newest }
@@ -191,8 +192,8 @@ impl Following {
         Ok(Next::More { read: None })
     }
 
-    /// Takes an answer to what was asked for of the journal. A part that doesn't go on from here is of
-    /// another history, of which the newest checkpoint is asked for next.
+    /// Takes an answer to a request for the journal. A part that doesn't continue from here is of
+    /// another history, whose newest checkpoint is asked for next.
     fn take_journal(
         &mut self,
         place: Cursor,
@@ -249,7 +250,7 @@ impl Following {
         match answer.status {
             200 => {}
             410 => {
-                // There is no checkpoint, so the journal may be there from its beginning on.
+                // There is no checkpoint, so the journal may be there from its beginning.
                 self.position = Some(Position::Journal(Cursor::start(self.id)));
                 return Err(PeerFault::Gone);
             }
@@ -269,7 +270,7 @@ impl Following {
         Ok(Next::More { read: None })
     }
 
-    /// Takes an answer to what was asked for of a checkpoint, behind which the journal is gone on with.
+    /// Takes an answer to a request for a checkpoint, after which the journal is continued.
     fn take_checkpoint(
         &mut self,
         begins: Cursor,
@@ -308,15 +309,16 @@ impl Following {
         }
     }
 
-    /// Takes the answer to the last request, which [`Following::target`] gave, and adds the cells that
-    /// it has behind `cells`. Where bytes of the journal were asked for, they are those of a part that
-    /// was given from its place on, as [`read_part`] reads one. So are those of a checkpoint, from where
-    /// it begins on, behind the header of its file; at its end the journal is gone on with from there.
+    /// Takes the answer to the last request, which [`Following::target`] gave, and appends its
+    /// cells to `cells`. If bytes of the journal were asked for, they are those of a part that was
+    /// given from its place on, as [`read_part`] reads one. So are those of a checkpoint, from
+    /// where it begins on, after the header of its file; at its end the journal is continued from
+    /// there.
     ///
-    /// Refused as `SchemaDiffers` by the peer; as `Gone` where it has neither the journal from here on
-    /// nor a checkpoint; as [`PartFault`] says where its bytes don't go on from here or mean nothing:
-    /// then the newest checkpoint is asked for next; as `BadAnswer` where no node answers so; and as
-    /// `Memory`. After a refusal no cells are added.
+    /// Refused as `SchemaDiffers` by the peer; as `Gone` if it has neither the journal from here on
+    /// nor a checkpoint; as [`PartFault`] says if its bytes don't continue from here or mean
+    /// nothing: then the newest checkpoint is asked for next; as `BadAnswer` if no node answers so;
+    /// and as `Memory`. After a refusal no cells are added.
     pub fn take(
         &mut self,
         answer: &PeerAnswer,

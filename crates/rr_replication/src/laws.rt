@@ -1,23 +1,23 @@
-//! The laws of parts, with no work to do: the functions have empty bodies.
+//! The laws of parts: functions with empty bodies, whose contracts state them.
 ghost use Rattle.rr_replication.specs.Files.{PartsAreWithin, PartsComeToTheEnd};
 ghost use Rattle.rr_replication.specs.Laws.{PartsAreTaken, PartsBringTheRecords, PeersCatchUp, WhatIsJoinedIsHeld};
 
 /// A part with a whole record is taken, if each of its whole records means something. Whoever reads
-/// parts one after the other has the cells of all records up to its place, wherever the parts end.
+/// parts in succession has the cells of all records up to its place, wherever the parts end.
 pub fn parts_bring_the_records()
     ensures taken { PartsAreTaken }
     ensures brought { PartsBringTheRecords }
 {}
 
-/// A part has at least one byte, and lies in one file. Parts asked for one after the other are the
+/// A part has at least one byte, and lies in one file. Parts asked for in succession are the
 /// journal's bytes up to its end, without gap or overlap.
 pub fn parts_come_to_the_end()
     ensures within { PartsAreWithin }
     ensures end { PartsComeToTheEnd }
 {}
 
-/// A peer that asks a node again and again is refused no part, and has the cells of all its records
-/// in the end.
+/// A peer that keeps asking a node is refused no part, and in the end has the cells of all its
+/// records.
 pub fn peers_catch_up()
     ensures { PeersCatchUp }
 {}

@@ -1,31 +1,30 @@
-//! What a node gives of its journal to a peer, and what the peer makes of it.
+//! What a node gives a peer of its journal, and what the peer makes of it.
 //!
 //! An offset counts the bytes of records in a node's endless journal. A peer asks for the bytes
-//! from an offset on and is given a part of them ([`part_from`]): bytes of one file, up to where
-//! that file or what is synced ends, and at most 4 MiB. It reads the part's whole records
-//! ([`read_part`]): each has to chain to the one before it, and its cells are added to a list, to
-//! be joined. Where the part's end cuts a record, the peer asks again from that record on. Bytes
-//! and numbers come in, and values go out; there are no sockets here, and no files.
+//! from an offset on and is given a part of them ([`part_from`]): bytes of one file, up to the end
+//! of that file or of what is synced, and at most 4 MiB. It reads the part's whole records
+//! ([`read_part`]): each must chain to the one before it, and its cells are added to a list, to be
+//! joined. If the part's end cuts a record, the peer asks again from that record on.
 //!
-//! A peer asks by HTTP, over a [`PeerConnection`], and [`Following`] says what it asks for next and
-//! takes what is answered: first where the journal is, then the journal from where it was read up to
-//! on, or the newest checkpoint where the journal isn't there any more or is another history, and then
-//! the journal behind that.
+//! A peer asks over HTTP, through a [`PeerConnection`], and [`Following`] says what it asks for
+//! next and takes the answer: first where the journal is, then the journal from where it was read
+//! up to; or the newest checkpoint, if the journal is gone or is another history, and then the
+//! journal after that.
 //!
 //! ```text
 //! files, end, from ── part_from ──> Bytes { file, skip, len } | Nothing | Gone
 //!                                     └── bytes ──┐
 //!                   ┌─────────────────────────────┘
-//! place, cells ── read_part ──> the place behind the last whole record, and more cells
+//! place, cells ── read_part ──> the place after the last whole record, and more cells
 //!                   └── read_record ─> record ── decode ─> groups ── Decoder ─> cell
 //! ```
 //!
-//! In `specs/` both are functions of their arguments (`Part.antt`, `Reading.antt`), and what an answer
-//! makes of a [`Following`] is said by what was asked for (`Following.antt`). [`laws`] says
-//! that parts asked for one after the other are the journal's bytes up to its end, without gap or
-//! overlap (`Files.antt`); that a peer that asks again and again is refused none of them, and has
-//! the cells of all records in the end; and that a map these are joined to holds all that the
-//! records say (`Laws.antt`).
+//! In `specs/` both are functions of their arguments (`Part.antt`, `Reading.antt`), and what an
+//! answer makes of a [`Following`] is defined by what was asked for (`Following.antt`). [`laws`]
+//! states that parts asked for in succession are the journal's bytes up to its end, without gap or
+//! overlap (`Files.antt`); that a peer that keeps asking is refused none of them, and has the cells
+//! of all records in the end; and that a map these are joined to holds all that the records say
+//! (`Laws.antt`).
 #![tactic(auto)]
 
 mod answer;

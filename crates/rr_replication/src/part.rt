@@ -12,20 +12,20 @@ const _: () = prove!(MAX_PART == 4_194_304);
 pub enum Part {
     /// Bytes of records in one of the journal's files.
     Bytes {
-        /// The offset at which the file begins, which is that of its name.
+        /// The offset at which the file begins, as in its name.
         file: u64,
-        /// How many bytes of the file's records are before them.
+        /// How many bytes of the file's records come before them.
         skip: u64,
-        /// How many they are: one at least, and at most [`MAX_PART`].
+        /// How many there are: at least one, and at most [`MAX_PART`].
         len: u64,
     },
     /// No bytes yet: the journal ends there.
     Nothing,
-    /// No such bytes: they are in no file any more, or the journal doesn't reach so far.
+    /// No such bytes: they are no longer in any file, or the journal doesn't reach that far.
     Gone,
 }
 
-/// The later of two files' beginnings, of which the second counts only if it isn't above `from`.
+/// The later of two files' beginnings; the second counts only if it isn't above `from`.
 fn later(begin: Option<u64>, file: u64, from: u64) -> Option<u64>
     ensures { result ≡ later begin file from }
 {
@@ -38,8 +38,8 @@ fn later(begin: Option<u64>, file: u64, from: u64) -> Option<u64>
     }
 }
 
-/// Where the file begins that has the bytes from an offset on: the greatest of these beginnings
-/// that isn't above it.
+/// Where the file with the bytes from an offset on begins: at the greatest of these beginnings that
+/// isn't above it.
 fn begins_at(files: &[u64], from: u64) -> Option<u64>
     ensures begin { result ≡ begins_at files.now from }
     ensures within { IfSome result (λ begin. begin ≤ from) }
@@ -51,7 +51,7 @@ fn begins_at(files: &[u64], from: u64) -> Option<u64>
     begin
 }
 
-/// The sooner of an end and a file's beginning, which counts only if it is above `from`.
+/// The lesser of an end and a file's beginning, which counts only if it is above `from`.
 fn sooner(end: u64, file: u64, from: u64) -> u64
     ensures { result ≡ sooner end file from }
 {
@@ -75,9 +75,9 @@ fn ends_at(files: &[u64], end: u64, from: u64) -> u64
 /// `files`, in any order, and are synced up to the offset `end`.
 ///
 /// They are in the last file that begins at or before `from`, and reach to the next file's
-/// beginning, to `end`, or over [`MAX_PART`] bytes, whichever is least. `Gone` comes where no file
-/// begins at or before `from`, or `from` is above `end`; else `Nothing` where `from` is `end`. No
-/// memory is taken. The cost is linear in the files.
+/// beginning, to `end`, or over [`MAX_PART`] bytes, whichever is least. `Gone` if no file begins at
+/// or before `from`, or `from` is above `end`; otherwise `Nothing` if `from` is `end`. No memory is
+/// taken. The cost is linear in the files.
 pub fn part_from(files: &[u64], end: u64, from: u64) -> Part
     ensures { result ≡ part_from files.now end from }
 {

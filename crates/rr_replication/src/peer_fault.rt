@@ -18,11 +18,11 @@ pub enum PeerFault {
     WriteFailed,
     /// It ended the connection before the end of an answer.
     Ended,
-    /// It answers what no node does.
+    /// It gives an answer that no node gives.
     BadAnswer,
-    /// Its schema is another one, or its values have another number of decimals.
+    /// Its schema differs, or its values have another number of decimals.
     SchemaDiffers,
-    /// It has neither the journal from where this node is in it nor a checkpoint.
+    /// It has neither the journal from this node's place on nor a checkpoint.
     Gone,
     /// What it gave is refused.
     Part(PartFault),

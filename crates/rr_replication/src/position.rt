@@ -16,7 +16,7 @@ pub enum Position {
     Journal(Cursor),
     /// Before its newest checkpoint, of which nothing is read yet.
     Newest,
-    /// In the checkpoint behind which its journal is read from `begins` on.
+    /// In a checkpoint, after which its journal is read from `begins` on.
     Checkpoint {
         /// Where the checkpoint begins.
         begins: Cursor,
@@ -33,7 +33,7 @@ fn push_number(text: &mut Vec<u8>, number: u64) -> Result<(), AllocError>
     text.extend_from_slice(buffer.format(number).as_bytes())
 }
 
-/// What the first request of a connection asks for: where the peer's journal is, if its schema is this
+/// The target of a connection's first request: where the peer's journal is, if its schema is this
 /// one.
 pub(crate) fn greeting_target(alloc: Global, schema: &Schema) -> Result<Vec<u8>, AllocError>
     ensures { IfOk result (λ text. text.items ≡ greeting_target schema.now) }
@@ -46,7 +46,7 @@ pub(crate) fn greeting_target(alloc: Global, schema: &Schema) -> Result<Vec<u8>,
     Ok(text)
 }
 
-/// The byte of a checkpoint's file at which its records go on.
+/// The byte of a checkpoint's file at which its records continue.
 fn byte_of(schema: &Schema, begins: &Cursor, place: &Cursor) -> u64
     ensures { result ≡ byte_of schema.now begins.now place.now }
 {
@@ -55,7 +55,7 @@ fn byte_of(schema: &Schema, begins: &Cursor, place: &Cursor) -> u64
 }
 
 impl Position {
-    /// What a request for what comes next asks for.
+    /// The target of the request for what comes next.
     #[tactic(auto, unfolding(crate::specs::Position::target_of))]
     pub(crate) fn target(&self, alloc: Global, schema: &Schema) -> Result<Vec<u8>, AllocError>
         ensures { IfOk result (λ text. text.items ≡ target_of schema.now self.now) }

@@ -16,7 +16,7 @@ use rr_schema::Schema;
 use std::alloc::Global;
 use std::io::Read;
 
-/// Reads the record at a place of an input that never fails, and moves the place behind it.
+/// Reads the record at a place of an input that never fails, and moves the place past it.
 fn step_from<R: Read>(
     alloc: Global,
     input: &mut Counted<R>,
@@ -29,16 +29,16 @@ fn step_from<R: Read>(
     ensures faults { IfErr result (λ fault. fault ≡ PartFault.Memory) }
 {
     let step = read_record(alloc, input, place);
-    // The proof needs that the offset is one of 64 bits.
+    // The proof needs the offset to be one of 64 bits.
     let _offset = place.offset;
     match step {
         Ok(step) => Ok(step),
-        // A slice can be read without fail, so memory ran out.
+        // Reading a slice can't fail, so memory ran out.
         Err(_) => Err(PartFault::Memory),
     }
 }
 
-/// Refuses what is left behind the last whole record, unless it may be a record that the part's end
+/// Refuses what is left after the last whole record, unless it may be a record that the part's end
 /// cuts, and not the part's first.
 fn check_end(stop: Stop, is_first: bool) -> Result<(), PartFault>
     ensures { Gives (λ x. x) result (ends_part stop is_first) }
@@ -50,8 +50,7 @@ fn check_end(stop: Stop, is_first: bool) -> Result<(), PartFault>
     }
 }
 
-/// Adds the cells of the records at a place behind others, and moves the place behind the last of
-/// these records.
+/// Appends the cells of the records at a place, and moves the place past the last of these records.
 fn read_records<R: Read>(
     alloc: Global,
     input: &mut Counted<R>,
@@ -74,23 +73,23 @@ fn read_records<R: Read>(
             Step::Stopped(stop) => return check_end(stop, is_first),
         }
     }
-    // No slice has so many records.
+    // No slice has that many records.
     Err(PartFault::Memory)
 }
 
-/// Reads the whole records at the beginning of a part that was given from `place` on, and adds
-/// their cells behind `cells`, in order. `place` is then behind the last of these records. Records
+/// Reads the whole records at the beginning of a part that was given from `place` on, and appends
+/// their cells to `cells`, in order. `place` is then just past the last of these records. Records
 /// of origins, cursors and ends give no cells.
 ///
-/// A record that the part's end cuts is left out: it is to be asked for again, from `place` on. A
-/// part of no bytes changes nothing. Each cell that is added is one of the schema.
+/// A record that the part's end cuts is left out, to be asked for again from `place` on. A part of
+/// no bytes changes nothing. Each added cell is one of the schema.
 ///
-/// The first record that means nothing is refused as `BadRecord`. If there is none, `Damaged` comes
-/// where the part has bytes but no whole record, or more than
-/// [`MAX_RECORD_LEN`](rr_journal::MAX_RECORD_LEN) bytes are left behind the last one. `Memory`
-/// comes where memory runs out. After a refusal `place` and `cells` are as they were. One record is
-/// in memory at a time besides the cells, of which those of a group share their key; at the end 1 MiB
-/// is taken and given back. The cost is linear in the bytes and the cells.
+/// The first record that means nothing is refused as `BadRecord`. If there is none, the part is
+/// refused as `Damaged` if it has bytes but no whole record, or if more than
+/// [`MAX_RECORD_LEN`](rr_journal::MAX_RECORD_LEN) bytes are left after the last one. Refused as
+/// `Memory` if memory runs out. After a refusal `place` and `cells` are as they were. Besides the
+/// cells, where those of a group share their key, one record is in memory at a time; at the end
+/// 1 MiB is taken and given back. The cost is linear in the bytes and the cells.
 pub fn read_part(
     alloc: Global,
     bytes: &[u8],

@@ -4,21 +4,21 @@ use rr_host::Clock;
 use std::time;
 use std::time::{SystemTime, UNIX_EPOCH};
 
-/// The system's clock, which is read once between two calls of [`Clock::renew`]. Where it can't be
-/// read, or is past the year 2262, it gives its last moment again, which is 0 at first. Nothing is
-/// known of its moments.
+/// The system's clock, read once between two calls of [`Clock::renew`]. If it can't be read, or is
+/// past the year 2262, it repeats its last moment, which is 0 at first. Nothing is known of its
+/// moments.
 #[derive(Drop)]
 pub struct SystemClock<S> {
     source: S,
     last: i64,
-    /// How many times it was renewed. The number stops at its greatest value.
+    /// How many times it was renewed; saturates.
     renewals: u64,
-    /// How many times it had been renewed when it was read last, if it was.
+    /// How many times it had been renewed when it was last read, if it was.
     read_at: Option<u64>,
 }
 
 impl<S: time::Clock> SystemClock<S> {
-    /// The system's clock, read through `source`: the handle of a program will do.
+    /// The system's clock, read through `source`; a program's handle will do.
     pub fn new(source: S) -> SystemClock<S> {
         SystemClock {
             source,

@@ -44,7 +44,7 @@ fn seats(
 }
 
 impl Endpoints {
-    /// The listeners of a node, with a reader for each address of fetches.
+    /// The listeners of a node, with a reader for each fetch address.
     pub(crate) fn new(
         alloc: Global,
         readers: Vec<Reader<PackedArchive>>,
@@ -65,7 +65,7 @@ impl Endpoints {
     }
 }
 
-/// Serves with a keeper and its readers' seats, until a flag is raised that they share.
+/// Serves with a keeper and its readers' seats, until the flag that they share is raised.
 pub(crate) fn work<R>(
     alloc: Global,
     keeper: &mut Keeper<PackedArchive>,

@@ -12,13 +12,13 @@ use std::fs;
 use std::io::{BufReader, ErrorKind};
 use std::rt::Files;
 
-/// Tells the operator what is to be said of a file. If this can't be printed, the node still does
-/// what it does.
+/// Tells the operator something about a file. If it can't be printed, the node goes on all the
+/// same.
 pub(crate) fn tell(rt: &impl Eprint, file: &str, text: impl Display + Drop) {
     let _printed = eprintln!(rt; "rr: {file}: {text}");
 }
 
-/// Tells what is to be said of the text of a configuration: why it is refused, or what is ignored.
+/// Reports the remarks on a configuration's text: why it is refused, or what is ignored.
 fn tell_remarks(rt: &(impl AllocGlobal + Eprint), file: &str, text: &[u8]) {
     // If there is no memory for them, they are left out.
     let Ok(lines) = remarks(rt.alloc(), text) else {
@@ -29,8 +29,8 @@ fn tell_remarks(rt: &(impl AllocGlobal + Eprint), file: &str, text: &[u8]) {
     }
 }
 
-/// The configuration in a file. The ending says why there is none. What is to be said of its text
-/// is told.
+/// The configuration in a file, or the ending that says why there is none. Remarks on its text are
+/// reported.
 pub(crate) fn read_config(
     rt: &(impl AllocGlobal + Files + Eprint),
     file: &str,
@@ -47,8 +47,8 @@ pub(crate) fn read_config(
     }
 }
 
-/// The configuration of a node with a directory, in a file. The ending says why there is none. What
-/// is to be said of its text is told.
+/// The configuration of a node with a directory, from a file, or the ending that says why there is
+/// none. Remarks on its text are reported.
 pub(crate) fn read_node_config(
     rt: &(impl AllocGlobal + Files + Eprint),
     file: &str,
@@ -70,8 +70,8 @@ pub(crate) fn read_node_config(
     }
 }
 
-/// The replica that a snapshot in a file is loaded as, with its rows ready to be shared by the
-/// copies of a desk.
+/// The replica loaded from a snapshot in a file, with its rows ready to be shared by the copies of
+/// a desk.
 pub(crate) fn load_replica(
     rt: &(impl AllocGlobal + Files + Eprint),
     file: &str,
@@ -102,7 +102,7 @@ pub(crate) fn load_replica(
     }
 }
 
-/// The replica that a node begins with: that of a snapshot in a file, or an empty one if no file is
+/// The replica that a node begins with: loaded from a snapshot in a file, or empty if no file is
 /// named. The ending says why there is none.
 pub(crate) fn first_replica(
     rt: &(impl AllocGlobal + Files + Eprint),
@@ -119,8 +119,8 @@ pub(crate) fn first_replica(
     }
 }
 
-/// Looks for the folder of a file, so that a node doesn't serve which couldn't save to it. If it
-/// can't be opened, that is told.
+/// Checks the folder of a file, so that a node that couldn't save to it doesn't serve. If it can't
+/// be opened, that is reported.
 pub(crate) fn check_folder(
     rt: &(impl AllocGlobal + Files + Eprint),
     file: &str,
@@ -141,8 +141,7 @@ pub(crate) fn check_folder(
     }
 }
 
-/// Tells that the snapshot in a file, if one is there, will be replaced, though the node doesn't
-/// begin with it.
+/// Warns that a file, if there is one, will be replaced by a node that didn't load it.
 pub(crate) fn tell_replaced(rt: &(impl Files + Eprint), file: &str) {
     if fs::metadata(rt, file).is_ok_and(|found| found.is_file()) {
         tell(rt, file, "will be replaced: no --load");

@@ -19,13 +19,13 @@ fn series_count<A: Cells>(replica: &Replica<A>) -> usize {
             return count;
         };
         count = count.saturating_add(1);
-        // No cell of the series is after this name.
+        // No cell of the series comes after this name.
         next = replica.next_cell(cell.key, u8::MAX, i64::MAX, last);
     }
     count
 }
 
-/// The line of a node that starts with a replica.
+/// The line of a node starting with a replica.
 pub(crate) fn greeting<A: Cells>(
     alloc: Global,
     config: &Config,
@@ -43,7 +43,7 @@ pub(crate) fn greeting<A: Cells>(
     Ok(text)
 }
 
-/// The line of a node with a directory that starts with a replica.
+/// The line of a node with a directory, starting with a replica.
 pub(crate) fn node_greeting<A: Cells>(
     alloc: Global,
     config: &NodeConfig,

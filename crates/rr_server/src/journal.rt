@@ -22,10 +22,10 @@ use std::rt::Files;
 /// How many bytes of records are held before they are written.
 const PIECE: usize = 1 << 16;
 
-/// What a node would have after a start: its replica, and what was found besides.
+/// What a node would have after a start: its replica, and what else was found.
 type Started = Result<(Replica<PackedArchive>, Recovered), Refusal>;
 
-/// The files of a directory, as a node that starts reads them.
+/// The files of a directory, as a starting node reads them.
 #[derive(Drop)]
 struct StoppedNode<'a, R> {
     alloc: Global,
@@ -34,7 +34,8 @@ struct StoppedNode<'a, R> {
     schema: Schema,
 }
 
-/// A schema for files whose header names none: it is refused then, unless another fault comes first.
+/// A schema for a directory in which no header names one. It has no file then, or its first one is
+/// refused.
 fn any_schema(alloc: Global) -> Result<Schema, ToolFault> {
     let archive = ArchiveSpec {
         steps: 1,
@@ -48,7 +49,7 @@ fn any_schema(alloc: Global) -> Result<Schema, ToolFault> {
     }
 }
 
-/// The fault of a run that a directory's call ends.
+/// The fault of a run that a failed directory call ends.
 fn directory_fault(fault: DirectoryFault) -> ToolFault {
     match fault {
         DirectoryFault::ReadFailed => ToolFault::ReadFailed,
@@ -56,7 +57,7 @@ fn directory_fault(fault: DirectoryFault) -> ToolFault {
     }
 }
 
-/// The fault of a run that a file ends, if it isn't the file's own.
+/// The fault of a run that a file's fault ends; none if the fault is the file's own.
 fn run_fault(fault: FileFault) -> Option<ToolFault> {
     match fault {
         FileFault::ReadFailed => Some(ToolFault::ReadFailed),
@@ -93,7 +94,7 @@ impl<'a, R: Files + Eprint> StoppedNode<'a, R> {
         })
     }
 
-    /// What a file has, read under an origin of which it has nothing.
+    /// What a file has, read under an origin that it has nothing of.
     fn survey(&self, name: FileName) -> Result<Option<FileReport>, AllocError> {
         for number in (1..=u16::MAX).rev() {
             let Ok(origin) = Origin::new(number) else {
@@ -112,7 +113,7 @@ impl<'a, R: Files + Eprint> StoppedNode<'a, R> {
         Ok(None)
     }
 
-    /// What a node would have that starts under an origin of which no file has anything.
+    /// What a node would have if it started under an origin that no file has anything of.
     fn start(&self) -> Result<Option<Started>, AllocError> {
         for number in (1..=u16::MAX).rev() {
             let Ok(origin) = Origin::new(number) else {
@@ -172,7 +173,7 @@ impl<'a, R: Files + Eprint> StoppedNode<'a, R> {
         })
     }
 
-    /// Writes what `check` says.
+    /// Writes the output of `check`.
     fn check<W: Write>(&self, output: &mut Counted<W>) -> Result<Ending, ToolFault> {
         self.write_reports(output)?;
         match self.start()? {
@@ -209,7 +210,7 @@ impl<'a, R: Files + Eprint> StoppedNode<'a, R> {
         Ok(Ending::Done)
     }
 
-    /// Writes what `cells` says.
+    /// Writes the output of `cells`.
     fn cells<W: Write>(&self, output: &mut Counted<W>) -> Result<Ending, ToolFault> {
         match self.start()? {
             Some(Ok((replica, _))) => self.write_cells(output, &replica),
@@ -222,7 +223,7 @@ impl<'a, R: Files + Eprint> StoppedNode<'a, R> {
     }
 }
 
-/// Reads a directory, and says how that ended: what is asked of it is written to standard output. A
+/// Reads a directory, writes what is asked of it to standard output, and returns how that ended. A
 /// directory or a file that can't be read is named on standard error.
 pub(crate) fn read_directory(
     rt: &(impl AllocGlobal + Files + Print + Eprint),

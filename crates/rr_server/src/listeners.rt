@@ -15,16 +15,16 @@ use std::net::{Net, TcpListener, TcpStream};
 pub(crate) struct Signals {
     /// The flag that ends its connections.
     pub(crate) halt: HaltFlag,
-    /// The one by which an empty line connection asks for a snapshot.
+    /// The flag by which an empty line connection asks for a snapshot.
     pub(crate) save_requested: Flag,
-    /// The one that says that a peer of another schema pulled.
+    /// The flag that says that a peer of another schema pulled.
     pub(crate) schema_differs: Flag,
-    /// The barrier at which they begin.
+    /// The barrier at which the threads begin.
     pub(crate) start: StartBarrier,
 }
 
 impl Signals {
-    /// The signals of a node with this number of threads. No flag is raised.
+    /// The signals of a node with this number of threads, no flag raised.
     fn new(alloc: Global, threads: usize) -> Result<Signals, AllocError> {
         Ok(Signals {
             halt: HaltFlag::new(alloc)?,
@@ -34,7 +34,7 @@ impl Signals {
         })
     }
 
-    /// How one of its threads waits for visits: without end, or for `every` seconds.
+    /// How one of its threads waits for visits: indefinitely, or for `every` seconds.
     pub(crate) fn waiting(&self, every: Option<u64>) -> Result<Waiting, AllocError> {
         let waiting = Waiting::new(self.halt.share()?).after_start(self.start.share()?);
         match every {
@@ -58,7 +58,7 @@ impl Listeners {
         rt: &(impl AllocGlobal + Eprint + Net<Listener = TcpListener, Stream = TcpStream>),
         config: &Config,
     ) -> Result<Listeners, Ending> {
-        // One thread keeps, and each address of fetches has one.
+        // One thread for the keeper, and one for each fetch address.
         let threads = config.fetch.len().saturating_add(1);
         let Ok(signals) = Signals::new(rt.alloc(), threads) else {
             return Err(OUT_OF_MEMORY);
@@ -71,7 +71,7 @@ impl Listeners {
     }
 }
 
-/// Listens on the address of lines.
+/// Listens on the line address.
 fn listen_for_lines(
     rt: &(impl AllocGlobal + Eprint + Net<Listener = TcpListener, Stream = TcpStream>),
     config: &Config,
@@ -81,7 +81,7 @@ fn listen_for_lines(
     listen_at(rt, address, config.idle, config.every, signals)
 }
 
-/// Listens on the addresses of fetches.
+/// Listens on the fetch addresses.
 fn listen_for_fetches(
     rt: &(impl AllocGlobal + Eprint + Net<Listener = TcpListener, Stream = TcpStream>),
     config: &Config,
@@ -97,7 +97,7 @@ fn listen_for_fetches(
     Ok(fetches)
 }
 
-/// Listens on an address of fetches.
+/// Listens on a fetch address.
 fn listen_for_fetch(
     rt: &(impl AllocGlobal + Eprint + Net<Listener = TcpListener, Stream = TcpStream>),
     address: &str,
@@ -111,8 +111,8 @@ fn listen_for_fetch(
     }
 }
 
-/// Why an address isn't listened on: memory ran out, or it can't be, which is told with the
-/// system's reason.
+/// The ending when an address can't be listened on: out of memory, or a bad address, which is
+/// reported with the system's reason.
 fn ending_of(rt: &impl Eprint, address: &str, error: &io::Error) -> Ending {
     match error.kind() {
         ErrorKind::OutOfMemory => OUT_OF_MEMORY,
@@ -124,8 +124,8 @@ fn ending_of(rt: &impl Eprint, address: &str, error: &io::Error) -> Ending {
     }
 }
 
-/// Listens at an address, whose connections may be silent for the idle time, until the flag is
-/// raised, or for an interval where one is named. The first is taken once all threads have begun.
+/// Listens on an address until the flag is raised, or for an interval if one is given. Connections
+/// may be silent for the idle time; the first is taken once all threads have begun.
 fn listen_at(
     rt: &(impl AllocGlobal + Eprint + Net<Listener = TcpListener, Stream = TcpStream>),
     address: &str,

@@ -1,4 +1,4 @@
-//! The order of a process's words, obeyed.
+//! Obeys the order given by a process's words.
 
 use crate::journal::read_directory;
 use crate::node::{Checkpointing, JournalParts, PeerCalling, serve_node_of};
@@ -14,7 +14,7 @@ use std::sync::Wait;
 use std::thread::Threads;
 use std::time::Clock;
 
-/// A text that may be missing.
+/// The text, borrowed, if there is one.
 pub(crate) fn lent(text: &Option<String>) -> Option<&str> {
     match text {
         Some(text) => Some(text.as_str()),
@@ -29,7 +29,7 @@ fn ended(served: Result<Ending, Ending>) -> Ending {
     }
 }
 
-/// Obeys the order of the process's own words, and says how that ended.
+/// Obeys the order given by the process's own words, and returns how that ended.
 ///
 /// A node's configuration is read first, then the snapshot to begin with, then it listens on its
 /// addresses; the first fault ends it. A file that can't be read is named on standard error.

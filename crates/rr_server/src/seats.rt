@@ -10,10 +10,10 @@ use std::thread::{Threads, for_each_mut};
 /// The seats of a node over TCP.
 #[derive(Drop)]
 pub struct TcpSeats {
-    /// Each a reader with the address that it answers on.
+    /// Each is a reader with the address it answers on.
     pub seats: Vec<Seat<PackedArchive, Listening, OpenGate>>,
-    /// The flag that their connections, and those of the keeper, look at. It is raised where memory
-    /// runs out at one of the seats. If it was raised, by whomever, memory didn't suffice.
+    /// The flag that their connections and the keeper's watch. It is raised when a seat runs out of
+    /// memory. Once it is raised, by whatever thread, memory didn't suffice.
     pub halt: HaltFlag,
 }
 

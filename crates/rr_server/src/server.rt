@@ -1,4 +1,4 @@
-//! A node at work: a keeper and its readers, over TCP.
+//! A running node: a keeper and its readers, over TCP.
 
 use crate::endpoints::{Endpoints, work};
 use crate::files::{check_folder, first_replica, read_config, tell_replaced};
@@ -22,7 +22,7 @@ use std::time::Clock;
 /// The ending when memory runs out.
 pub(crate) const OUT_OF_MEMORY: Ending = Ending::Failed(ToolFault::Memory);
 
-/// What serves as a node, and where it saves.
+/// A node to serve, and the file it saves to.
 #[derive(Drop)]
 pub(crate) struct Server<'a, R> {
     pub(crate) rt: &'a R,
@@ -42,7 +42,7 @@ where
         + Wait
         + Sync,
 {
-    /// A server by the configuration in a file, which saves to a file if one is named.
+    /// A server configured by a file, which saves to another if one is named.
     pub(crate) fn new(
         rt: &'a R,
         config: &str,
@@ -52,9 +52,9 @@ where
         Ok(Server { rt, config, save })
     }
 
-    /// Begins with the snapshot in a file, or with nothing, listens, and serves until all rounds
-    /// and visits are done. If there is no folder for the snapshots that are to be saved, it
-    /// doesn't begin; if one is there that it doesn't begin with, that is told.
+    /// Begins with the snapshot in a file, or empty, listens, and serves until all rounds and
+    /// visits are done. Doesn't begin if the folder to save snapshots to is missing; if it begins
+    /// empty, tells the operator of a snapshot there that it will replace.
     pub(crate) fn serve(&self, origin: Origin, load: Option<&str>) -> Result<Ending, Ending> {
         if let Some(file) = self.save {
             check_folder(self.rt, file)?;
@@ -68,7 +68,7 @@ where
         Ok(self.serve_replica(replica, listeners))
     }
 
-    /// Says with what it starts, unless it is to be quiet.
+    /// Prints what it starts with, unless it is to be quiet.
     fn greet(&self, replica: &Replica<PackedArchive>) {
         if self.config.quiet {
             return;
@@ -79,7 +79,7 @@ where
         }
     }
 
-    /// Opens a desk over a replica, with a reader for each address of fetches, and serves at it.
+    /// Opens a desk over a replica, with a reader for each fetch address, and serves with it.
     fn serve_replica(&self, replica: Replica<PackedArchive>, listeners: Listeners) -> Ending {
         let readers = listeners.fetches.len();
         let Ok((mut keeper, readers)) = open(self.rt.alloc(), self.rt, replica, readers) else {
@@ -93,7 +93,7 @@ where
         }
     }
 
-    /// Serves with a keeper, which takes lines where they come, and with its readers.
+    /// Serves with a keeper, which takes the lines, and with its readers.
     fn serve_desk(
         &self,
         keeper: &mut Keeper<PackedArchive>,

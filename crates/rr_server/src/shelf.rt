@@ -1,4 +1,4 @@
-//! What takes the snapshots of a node, and says what its rounds did.
+//! The shelf of a node: takes its snapshots, and says what its rounds did.
 //!
 //! ```text
 //! PacedShelf ── a snapshot that is due ──> FileShelf ──> the file, in the place of the last one

@@ -1,9 +1,9 @@
-//! What the threads of a node tell each other.
+//! Signals between the threads of a node.
 //!
-//! A [`HaltFlag`] ends the node before its time. A [`Flag`] asks for a snapshot before its time, or
-//! says that a peer of another schema pulled. In a [`SharedText`] one thread puts a text that
-//! others read. At a [`StartBarrier`] the threads wait for each other before they take a connection, and by [`Waiting`] they wait for one.
-//! Nothing is known of the calls of other threads.
+//! A [`HaltFlag`] ends the node early. A [`Flag`] asks for an early snapshot, or says that a peer
+//! of another schema pulled. One thread puts a text in a [`SharedText`] for others to read. At a
+//! [`StartBarrier`] the threads wait for each other before they take a connection, and by
+//! [`Waiting`] they wait for one. Nothing is known of the calls of other threads.
 
 mod flag;
 mod halt;

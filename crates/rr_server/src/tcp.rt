@@ -5,9 +5,9 @@
 //! Calling ─── open ──> those of a connection to a peer ─────────> closed
 //! ```
 //!
-//! [`Listening`] gives the connections that come in, and [`Calling`] connects to peers. A
-//! [`PacedDial`] calls each peer at most once an interval. A [`Half`] waits for one second at a
-//! time, and looks at the flag of its node in between. Nothing is known of sockets.
+//! [`Listening`] gives incoming connections, and [`Calling`] connects to peers. A [`PacedDial`]
+//! calls each peer at most once an interval. A [`Half`] waits one second at a time, and checks its
+//! node's flag in between. Nothing is known of sockets.
 
 mod calling;
 mod listening;

@@ -12,20 +12,20 @@ use std::net::{Net, TcpStream};
 use std::rt::Files;
 use std::time::Clock;
 
-/// What the keeper of a node works with, beside its visits and its seats.
+/// What the keeper of a node works with, besides its visits and its seats.
 #[derive(Drop)]
 pub(crate) struct Tools<'c, 'a, R> {
-    /// What reaches the peers.
+    /// Calls the peers.
     pub(crate) dial: PacedDial<'c, R, Calling<'a, R>>,
-    /// What takes the snapshots.
+    /// Takes the snapshots.
     pub(crate) shelf: PacedShelf<'a, R, FileShelf<'a, R>>,
-    /// The flag that ends all.
+    /// The flag that ends everything.
     pub(crate) halt: HaltFlag,
     /// The time.
     pub(crate) clock: SystemClock<&'a R>,
 }
 
-/// What reaches the peers, each at most once an interval.
+/// A dial that calls each peer at most once an interval.
 fn dial<'c, 'a, R: AllocGlobal + Net<Stream = TcpStream> + Clock>(
     rt: &'a R,
     config: &'c Config,
@@ -39,7 +39,7 @@ where
     PacedDial::new(rt, alloc, calling, config.every, &config.peers)
 }
 
-/// What is said of rounds.
+/// The log of rounds.
 fn log<'a, R: AllocGlobal + Files + Eprint + Clock>(
     rt: &'a R,
     config: &Config,
@@ -54,7 +54,7 @@ where
     'a: 'c,
 {
     /// The tools of a keeper. Its shelf takes snapshots at most once an interval unless one is
-    /// requested, and says so where a peer of another schema pulled.
+    /// requested, and says so if a peer of another schema pulled.
     pub(crate) fn new(
         rt: &'a R,
         config: &'c Config,

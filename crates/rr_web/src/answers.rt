@@ -9,10 +9,10 @@ use crate::reply::{Kind, Reply, Status};
 use crate::rows::fetch_json;
 use std::alloc::{AllocError, Global};
 
-/// In what form a fetch is answered.
+/// The form in which a fetch is answered.
 #[derive(Clone, Copy, Debug, PartialEq, Eq)]
 pub(crate) enum Form {
-    /// Records of CSV, as the fetch port has them.
+    /// CSV records, as on the fetch port.
     Csv,
     /// JSON: the key, and its rows.
     Json,
@@ -65,7 +65,7 @@ pub(crate) fn records_reply(
     }
 }
 
-/// What is answered where a query is refused by this name, as the fetch port words a refusal.
+/// The reply to a query that is refused by this name, worded as on the fetch port.
 pub(crate) fn refusal_reply(alloc: Global, name: &str) -> Result<Reply, AllocError>
     ensures { IfOk result (λ reply. reply_view reply
         ≡ reply_of Status.BadRequest Kind.Plain (refusal_text name.now)) }

@@ -18,23 +18,25 @@ pub enum Ask {
     Journal,
     /// Bytes of a checkpoint, as a peer asks.
     Checkpoint,
-    /// The page, its script or its style.
+    /// The page.
     Page,
+    /// The page's script.
     Script,
+    /// The page's style.
     Style,
     /// Whether the node can acknowledge what it is sent.
     Health,
     /// Whether the node is there, as InfluxDB's clients ask.
     Ping,
-    /// What only `POST` asks for, by another method.
+    /// What only `POST` may ask for, by another method.
     OnlyPost,
-    /// What only `GET` and `HEAD` ask for, by another method.
+    /// What only `GET` and `HEAD` may ask for, by another method.
     OnlyGet,
-    /// Nothing that there is.
+    /// Nothing that exists.
     Nothing,
 }
 
-/// What is read at a path, or that nothing is.
+/// What is read at a path, or `Nothing`.
 fn read_at(path: &[u8]) -> Ask
     ensures { result ≡ read_at path.now }
 {
@@ -77,8 +79,8 @@ fn is_of_lines(path: &[u8]) -> bool
     path == b"/write".as_slice() || path == b"/api/v2/write".as_slice()
 }
 
-/// What a request of this method and this path asks for. Both are compared byte by byte: methods
-/// and paths have a case.
+/// What a request with this method and this path asks for. Both are compared byte by byte: methods
+/// and paths are case-sensitive.
 #[tactic(auto, unfolding(crate::specs::Ask::ask_of))]
 pub fn asked_by(method: &[u8], path: &[u8]) -> Ask
     ensures { result ≡ ask_of method.now path.now }

@@ -14,7 +14,7 @@ use std::alloc::AllocError;
 /// What the numbers of a family are.
 #[derive(Clone, Copy, Debug, PartialEq, Eq)]
 pub(crate) enum FamilyKind {
-    /// They count from 0 at the start on. The name of the family ends in `_total`.
+    /// They count up from 0 at the start. The name of the family ends in `_total`.
     Counter,
     /// They rise and fall.
     Gauge,
@@ -25,14 +25,14 @@ pub(crate) enum FamilyKind {
 pub(crate) enum Amount {
     /// A whole number.
     Whole(u64),
-    /// So many thousandths, written with a decimal point: milliseconds as seconds.
+    /// Thousandths, written with a decimal point: milliseconds as seconds.
     Thousandths(u64),
 }
 
-/// What tells a sample from the others of its family.
+/// What distinguishes a sample from the others of its family.
 #[derive(Debug, Drop)]
 pub(crate) struct Label {
-    /// The name: letters, digits and `_`, and no digit first.
+    /// The name: letters, digits and `_`, with no digit first.
     pub(crate) name: &'static [u8],
     /// The value: any text.
     pub(crate) value: Vec<u8>,
@@ -41,7 +41,7 @@ pub(crate) struct Label {
 /// A number of a family.
 #[derive(Debug, Drop)]
 pub(crate) struct Sample {
-    /// What tells it from the others; no label where there is one sample alone.
+    /// What distinguishes it from the others; no label if it is the only sample.
     pub(crate) labels: Vec<Label>,
     /// The number.
     pub(crate) amount: Amount,
@@ -50,11 +50,11 @@ pub(crate) struct Sample {
 /// Numbers of one meaning.
 #[derive(Debug, Drop)]
 pub(crate) struct Family {
-    /// The name: letters, digits, `_` and `:`, and no digit first.
+    /// The name: letters, digits, `_` and `:`, with no digit first.
     pub(crate) name: &'static [u8],
     /// What the numbers are, for people.
     pub(crate) help: &'static [u8],
-    /// What they are, for who reads them.
+    /// What they are, for whoever reads them.
     pub(crate) kind: FamilyKind,
     /// The numbers.
     pub(crate) samples: Vec<Sample>,
@@ -70,7 +70,7 @@ fn kind_name(kind: FamilyKind) -> &'static [u8]
     }
 }
 
-/// Adds a byte of a help.
+/// Adds a byte of a help text.
 fn push_help_byte(text: &mut Vec<u8>, byte: u8) -> Result<(), AllocError>
     ensures { OnOk result (text.new.items ≡ text.old.items ++ help_byte byte) }
 {
@@ -91,7 +91,7 @@ fn push_label_byte(text: &mut Vec<u8>, byte: u8) -> Result<(), AllocError>
     push_help_byte(text, byte)
 }
 
-/// Adds a help.
+/// Adds a help text.
 fn push_help(text: &mut Vec<u8>, help: &[u8]) -> Result<(), AllocError>
     ensures { OnOk result (text.new.items ≡ text.old.items ++ flat_map help_byte help.now) }
 {
@@ -162,7 +162,7 @@ fn last_digit(number: u64) -> u8
     b'0' + (number % 10) as u8
 }
 
-/// Adds thousandths, with three digits behind the point.
+/// Adds thousandths, with three digits after the point.
 fn push_thousandths(text: &mut Vec<u8>, number: u64) -> Result<(), AllocError>
     ensures { OnOk result (text.new.items ≡ text.old.items ++ thousandths_text number) }
 {
@@ -224,8 +224,8 @@ fn push_samples(text: &mut Vec<u8>, name: &[u8], samples: &[Sample]) -> Result<(
     Ok(())
 }
 
-/// Adds a family: its help and its kind, then a line for each sample. In a help and in the value of
-/// a label a backslash and a line feed are escaped, and in a value a quote too. The cost is linear
+/// Adds a family: its help and its kind, then a line for each sample. Backslashes and line feeds
+/// are escaped in a help and in the value of a label, and quotes too in a value. The cost is linear
 /// in what is added.
 pub(crate) fn push_family(text: &mut Vec<u8>, family: &Family) -> Result<(), AllocError>
     ensures { OnOk result (text.new.items

@@ -120,9 +120,9 @@ fn end(alloc: Global, query: &[u8], now: i64) -> Result<Option<Vec<u8>>, AllocEr
     }
 }
 
-/// The words of the request that a query writes by its parameters `cf`, `resolution`, `start`,
-/// `end` and `key`, if none is missing. With `last` the start and the end are those of as many
-/// seconds before the second `now`, whatever `start` and `end` say.
+/// The words of the request that a query makes by its parameters `cf`, `resolution`, `start`, `end`
+/// and `key`, if none is missing. With `last` the range is that many seconds before the second
+/// `now`, whatever `start` and `end` say.
 fn words_in(alloc: Global, query: &[u8], now: i64) -> Result<Option<Words>, AllocError>
     ensures { IfOk result (λ words. option_map words_view words ≡ words_in query.now now) }
 {
@@ -170,9 +170,9 @@ fn rows_reply<A: Cells>(
 
 /// The reply to the fetch that a query asks for at the second `now`: the rows of its request, in
 /// the form that it names, after the operations that the reader has seen when the call returns; or
-/// a refusal. The first of these is due: `BadFormat`, for a form that there isn't; `BadCommand`,
-/// for a parameter that is missing; and those of [`read_request`]. The cost is that of
-/// [`Reader::fetch`], and linear in the query.
+/// the first of these refusals to apply: `BadFormat`, for an unknown form; `BadCommand`, for a
+/// missing parameter; and those of [`read_request`]. The cost is that of [`Reader::fetch`], plus
+/// one linear in the query.
 pub(crate) fn fetch_reply<A: Cells>(
     alloc: Global,
     query: &[u8],

@@ -1,4 +1,4 @@
-//! The replies for which no reader is needed.
+//! The replies that need no reader.
 
 ghost use Rattle.std.specs.Prelude.{◌≡◌, IfOk};
 ghost use Rattle.rr_web.specs.Fixed.{IsFixedReply, failing_reply, health_reply};
@@ -51,7 +51,7 @@ fn health_reply(alloc: Global, failure: Option<&[u8]>) -> Result<Reply, AllocErr
     }
 }
 
-/// The reply to a request for what no reader is needed for.
+/// The reply to a request that needs no reader.
 pub(crate) fn fixed_reply(
     alloc: Global,
     ask: Ask,

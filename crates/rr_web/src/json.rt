@@ -1,4 +1,4 @@
-//! Texts of JSON.
+//! JSON texts.
 
 ghost use Rattle.std.specs.Prelude.{◌≡◌, ◌++◌, ◌%◌, OnOk};
 ghost use Rattle.std.specs.Char.{digit_char};
@@ -8,7 +8,7 @@ ghost use Rattle.rr_web.specs.Json.{escaped, quoted};
 use rr_text::bytes::BACKSLASH;
 use std::alloc::{AllocError, Global};
 
-/// The digit of the lower half of a byte, in hexadecimal.
+/// The hexadecimal digit of the lower half of a byte.
 fn hex_digit(byte: u8) -> u8
     ensures { result ≡ digit_char (byte % 16) }
 {
@@ -47,7 +47,7 @@ fn push_inside(text: &mut Vec<u8>, bytes: &[u8]) -> Result<(), AllocError>
     Ok(())
 }
 
-/// Adds bytes as a text in quotes. U+FFFD stands for what is no UTF-8 in them.
+/// Adds bytes as a text in quotes, with U+FFFD for what isn't UTF-8.
 pub(crate) fn push_quoted(alloc: Global, text: &mut Vec<u8>, bytes: &[u8]) -> Result<(), AllocError>
     ensures { OnOk result (text.new.items ≡ text.old.items ++ quoted bytes.now) }
 {

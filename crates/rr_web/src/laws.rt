@@ -1,4 +1,4 @@
-//! The laws of replies, with no work to do: the functions have empty bodies.
+//! The laws of replies: functions with empty bodies, whose contracts state them.
 ghost use Rattle.rr_web.specs.JsonRows.{RecordsAreRows};
 ghost use Rattle.rr_web.specs.Unquoted.{QuotedIsRead};
 
@@ -7,8 +7,8 @@ pub fn quoted_is_read()
     ensures { QuotedIsRead }
 {}
 
-/// The rows of a JSON reply are those of the records that the same fetch is answered with in CSV:
-/// a start and a number for each, or null for an unknown value, in the same order.
+/// The rows of a JSON reply are those of the records that answer the same fetch in CSV: a start and
+/// a number for each, or null for an unknown value, in the same order.
 pub fn records_are_rows()
     ensures { RecordsAreRows }
 {}

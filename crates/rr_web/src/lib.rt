@@ -1,20 +1,21 @@
-//! What is asked of a node over HTTP, and its replies: there is no socket here.
+//! Requests to a node over HTTP, and its replies: there is no socket here.
 //!
 //! ```text
 //! target ── target_parts ──> a path and a query
 //! method and path ── asked_by ──> Ask
 //! request that reads ── read_reply, by a reader ──> Reply: a status, a kind of text, and the text
 //!     the rows of a fetch, CSV or JSON; the keys of series, a line each; numbers, health; a page
-//! request of a peer ── part_query ──> what it asks for; what it is given ── part_response ──> a response
+//! request of a peer ── part_query ──> what it asks for
+//! what a peer is given ── part_response ──> a response
 //! request that writes ── refused_write ──> a Reply, or none: then its lines are to be taken
 //! refusals and report of lines ── write_reply ──> Reply
 //! numbers of a node ── metrics_text ──> the text form of Prometheus
-//! Reply ── response_of ──> a response of HTTP
+//! Reply ── response_of ──> an HTTP response
 //! ```
 //!
 //! In `specs/` each is a function of the bytes. Requests and responses are those of
-//! `rr_connection`. Queries are those of HTML's forms, as the URL Standard reads them; a write is
-//! answered as InfluxDB answers one, so that its senders know a refusal of some lines.
+//! `rr_connection`. Queries are those of HTML forms, as the URL Standard reads them; a write is
+//! answered as InfluxDB would, so that its senders recognize a refusal of some lines.
 #![tactic(auto)]
 
 mod answers;

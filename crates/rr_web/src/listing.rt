@@ -17,12 +17,12 @@ use rr_desk::Reader;
 use rr_key::{KeyFault, SeriesKey};
 use std::alloc::{AllocError, Global};
 
-/// How many keys are looked through at a time for those that begin with a prefix.
+/// How many keys are searched at a time for those that begin with a prefix.
 const PIECE: usize = 1_000;
 
 const _: () = prove!(PIECE == 1_000);
 
-/// The lines of the first keys behind one, or of all.
+/// The lines of the first keys after one, or of all keys.
 fn list_first<A: Cells>(
     alloc: Global,
     reader: &mut Reader<A>,
@@ -37,8 +37,8 @@ fn list_first<A: Cells>(
     lines_of(alloc, &keys)
 }
 
-/// The lines of the first keys behind one, or of all, that begin with a prefix. They are looked for
-/// piece by piece, and the reader takes in what is published meanwhile.
+/// The lines of the first keys after one, or of all keys, that begin with a prefix. They are
+/// searched piece by piece, and the reader takes in what is published meanwhile.
 fn list_with_prefix<A: Cells>(
     alloc: Global,
     reader: &mut Reader<A>,
@@ -64,11 +64,11 @@ fn list_with_prefix<A: Cells>(
             return Ok(text);
         }
     }
-    // So many keys have no place in memory.
+    // That many keys don't fit in memory.
     Err(AllocError)
 }
 
-/// The lines of the first keys behind one, or of all, that begin with a prefix.
+/// The lines of the first keys after one, or of all keys, that begin with a prefix.
 fn list<A: Cells>(
     alloc: Global,
     reader: &mut Reader<A>,
@@ -85,7 +85,7 @@ fn list<A: Cells>(
     }
 }
 
-/// The reply of the keys that begin with the prefix of a query.
+/// The reply with the keys that begin with the prefix of a query.
 fn keys_reply<A: Cells>(
     alloc: Global,
     query: &[u8],
@@ -106,12 +106,12 @@ fn keys_reply<A: Cells>(
 }
 
 /// The reply to a query for keys: a line for each of the first `count` keys that begin with its
-/// `prefix`, in the order of their bytes, from behind the key of its `after` on if it names one.
-/// They are those of what the reader has seen when the call returns; with a prefix they are looked
-/// for piece by piece, each piece by what it has seen by then. The first of these refusals is due:
-/// `BadNumber` and `BadCount`, of the count; and `BadKey`, of an `after` that is no key text. The
-/// cost is that of [`Reader::keys_after`] for the keys that are listed; with a prefix, for all from
-/// behind `after` up to the last one that begins with it.
+/// `prefix`, in the order of their bytes, after the key of its `after` if it names one. They are
+/// those of what the reader has seen when the call returns; with a prefix they are searched piece
+/// by piece, each piece by what it has seen by then. The first of these refusals to apply is given:
+/// `BadNumber` and `BadCount`, for the count; and `BadKey`, for an `after` that isn't a key text.
+/// The cost is that of [`Reader::keys_after`] for the keys that are listed; with a prefix, for all
+/// after `after` up to the last one that begins with it.
 pub(crate) fn series_reply<A: Cells>(
     alloc: Global,
     query: &[u8],

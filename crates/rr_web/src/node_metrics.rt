@@ -31,7 +31,7 @@ pub struct ArchiveRows {
 pub struct RefusedLines {
     /// The name of their fault: any text.
     pub fault: Vec<u8>,
-    /// How many there were since the start.
+    /// How many there have been since the start.
     pub lines: u64,
 }
 
@@ -40,13 +40,13 @@ pub struct RefusedLines {
 pub struct AnswerCounts {
     /// 200 and 204.
     pub done: u64,
-    /// 400 and above.
+    /// From 400 to 499.
     pub refused: u64,
     /// 500 and above.
     pub failed: u64,
 }
 
-/// The numbers of a node. Counts are those since its start.
+/// The numbers of a node. Counts are since its start.
 #[derive(Debug, Drop)]
 pub struct NodeMetrics {
     /// The version of the program.
@@ -71,7 +71,7 @@ pub struct NodeMetrics {
     pub points: u64,
     /// The samples that were taken.
     pub samples: u64,
-    /// The lines that were refused, by the fault.
+    /// The lines that were refused, by fault.
     pub refused: Vec<RefusedLines>,
     /// The samples that no archive kept.
     pub past_horizon: u64,
@@ -91,7 +91,7 @@ pub struct NodeMetrics {
     pub peers: Vec<PeerNumbers>,
 }
 
-/// The rows of an archive whose steps have so many seconds.
+/// The rows of an archive with steps of this many seconds.
 fn rows_of(step: u32, archive: &ArchiveSpec) -> ArchiveRows
     ensures { result ≡ rows_of step archive.now }
 {
@@ -101,7 +101,7 @@ fn rows_of(step: u32, archive: &ArchiveSpec) -> ArchiveRows
     }
 }
 
-/// The rows of each archive of a schema, from the finest on.
+/// The rows of each archive of a schema, finest first.
 pub fn archive_rows(alloc: Global, schema: &Schema) -> Result<Vec<ArchiveRows>, AllocError>
     ensures { IfOk result (λ rows. rows.items ≡ archive_rows schema.now) }
 {
@@ -163,7 +163,7 @@ fn push_counter(
     push(families, FamilyKind::Counter, name, help, samples)
 }
 
-/// Adds a family of a number that there may not be yet.
+/// Adds a family of a number that may not exist yet.
 fn push_optional(
     alloc: Global,
     families: &mut Vec<Family>,
@@ -210,7 +210,7 @@ fn push_store(
     push_gauge(alloc, families, b"rr_cells", help, metrics.cells)
 }
 
-/// Adds what its connections take and get.
+/// Adds the numbers of its connections.
 fn push_connections(
     alloc: Global,
     families: &mut Vec<Family>,
@@ -281,7 +281,7 @@ fn push_lines(
     )
 }
 
-/// Adds how its journal stands.
+/// Adds the state of its journal.
 fn push_journal(
     alloc: Global,
     families: &mut Vec<Family>,
@@ -310,7 +310,7 @@ fn push_journal(
     )
 }
 
-/// Adds how its checkpoints stand.
+/// Adds the state of its checkpoints.
 fn push_checkpoint(
     alloc: Global,
     families: &mut Vec<Family>,

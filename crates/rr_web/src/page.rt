@@ -1,7 +1,7 @@
 //! The page of a node.
 
-/// A page that lists series and plots them. It asks for its script and its style, and both ask
-/// the node alone. Their addresses are relative, so that it works behind the prefix of a proxy.
+/// A page that lists series and plots them. It loads its script and its style, and both ask only
+/// the node. Their addresses are relative, so that it works behind a proxy's prefix.
 pub(crate) const PAGE: &str = r##"<!doctype html>
 <html lang="en">
 <head>

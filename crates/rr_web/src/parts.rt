@@ -1,4 +1,4 @@
-//! What a peer asks for of a journal or of a checkpoint, and what it is answered.
+//! What a peer asks for of a journal or a checkpoint, and the answer.
 
 ghost use Rattle.std.specs.Prelude.{◌≡◌, ◌++◌, ◌∷◌, [], IfOk, OnOk, codes, map, option_map};
 ghost use Rattle.rr_connection.specs.Answer.{header_of, reply_view as response_view};
@@ -13,11 +13,11 @@ use rr_connection::{Field, Reply as Response, Value};
 use rr_text::text::number;
 use std::alloc::{AllocError, Global};
 
-/// What a peer asks for of a journal or of a checkpoint, by the parameters of a query. Each may be
-/// missing.
+/// What a peer asks for of a journal or a checkpoint, by the parameters of a query. Each may be
+/// absent.
 #[derive(Debug, Drop)]
 pub struct PartQuery {
-    /// `from`: the offset in bytes from which on it is asked for.
+    /// `from`: the offset in bytes at which what is asked for begins.
     pub from: Option<u64>,
     /// `begins`: the offset of the checkpoint that is asked for.
     pub begins: Option<u64>,
@@ -29,7 +29,8 @@ pub struct PartQuery {
     pub decimals: Option<Vec<u8>>,
 }
 
-/// A number that a query names, if it names one: the answer is none where that isn't one of 64 bits.
+/// The number that a query names, if it names one; the outer option is none if that isn't a number
+/// of 64 bits.
 fn number_in(text: Option<Vec<u8>>) -> Option<Option<u64>>
     ensures { result ≡ number_in (option_map (λ text. text.items) text) }
 {
@@ -42,7 +43,7 @@ fn number_in(text: Option<Vec<u8>>) -> Option<Option<u64>>
     }
 }
 
-/// What a query asks for, or nothing where it names an offset that is no number of 64 bits. The cost is
+/// What a query asks for, or none if it names an offset that isn't a number of 64 bits. The cost is
 /// linear in the query.
 pub fn part_query(alloc: Global, query: &[u8]) -> Result<Option<PartQuery>, AllocError>
     ensures { IfOk result (λ asked. option_map query_view asked ≡ part_query_in query.now) }
@@ -132,7 +133,7 @@ fn push_place(
     push_copied(alloc, fields, b"rr-journal-end", &end)
 }
 
-/// The fields of an answer with a body.
+/// Adds the field of an answer with a body.
 fn push_kind(fields: &mut Vec<Field>, media_type: &'static [u8]) -> Result<(), AllocError>
     ensures { OnOk result (map header_of fields.new.items ≡ map header_of fields.old.items
         ++ (codes "content-type", media_type.now) ∷ []) }
@@ -154,8 +155,8 @@ fn refused_text(alloc: Global, name: &str) -> Result<Vec<u8>, AllocError>
     Ok(text)
 }
 
-/// What a peer is answered: 200 and the bytes, 204, 410, 409 where its schema is another one, or 400
-/// with a name. Where the journal is stands in fields of the answer, if that is to be told.
+/// The answer to a peer: 200 and the bytes, 204, 410, 409 if its schema or its decimals differ, or
+/// 400 with a name. Fields of the answer say where the journal is, if that is to be told.
 pub fn part_response(
     alloc: Global,
     given: Given,

@@ -14,9 +14,9 @@ use std::alloc::{AllocError, Global};
 pub struct PeerNumbers {
     /// The address of the peer.
     pub address: Vec<u8>,
-    /// 1 if the peer's last answer was taken, and 0 where it can't be followed.
+    /// 1 if the peer's last answer was taken, and 0 if it can't be followed.
     pub up: u64,
-    /// How many bytes of the peer's journal aren't read yet, as far as is known.
+    /// How many bytes of the peer's journal aren't read yet, as far as known.
     pub lag_bytes: u64,
     /// The milliseconds since all of it was read.
     pub lag: u64,

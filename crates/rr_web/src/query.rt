@@ -8,7 +8,7 @@ use form_urlencoded::raw_pairs;
 use percent_encoding::percent_decode;
 use std::alloc::{AllocError, Global};
 
-/// A byte of a form, in which `+` stands for a space.
+/// A byte of a form, with a space for `+`.
 fn plus_to_space(byte: u8) -> u8
     ensures { result ≡ plus_to_space byte }
 {

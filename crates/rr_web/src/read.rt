@@ -18,11 +18,11 @@ use rr_desk::Reader;
 use std::alloc::{AllocError, Global};
 
 /// The reply to any request that isn't a write, at the second `now`, by what the reader has seen
-/// when the call returns: the rows of a fetch or the keys of series, or 400 with the name of why the
-/// query is refused; the text of `metrics`; 200 to who asks for its health, or 503 with the `failure`
+/// when the call returns: the rows of a fetch or the keys of series, or 400 with the name of why
+/// the query is refused; the text of `metrics`; to a health check 200, or 503 with the `failure`
 /// for which the node can acknowledge nothing now; 204 to a ping; the page and its files; or 404 or
-/// 405. A write is refused by 405. The cost is linear in the query and that of the reply: of
-/// [`Reader::fetch`] for a fetch, and of [`Reader::keys_after`] for the keys that are looked through.
+/// 405. A write is refused with 405. The cost is linear in the query, plus that of the reply: of
+/// [`Reader::fetch`] for a fetch, and of [`Reader::keys_after`] for the keys that are searched.
 pub fn read_reply<A: Cells>(
     alloc: Global,
     request: &Request,

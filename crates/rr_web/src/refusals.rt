@@ -1,4 +1,4 @@
-//! Requests that are refused, whatever a node holds.
+//! Requests that are refused whatever a node holds.
 
 ghost use Rattle.std.specs.Prelude.{◌≡◌, IfOk, option_map};
 ghost use Rattle.rr_connection.specs.Requests.{request_view};
@@ -18,7 +18,7 @@ use rr_connection::Request;
 use rr_line::Precision;
 use std::alloc::{AllocError, Global};
 
-/// A refusal, and why, as JSON. What it says has no quote, no backslash and no control character.
+/// A refusal and its reason, as JSON. The reason has no quote, backslash or control character.
 pub(crate) fn error_reply(alloc: Global, status: Status, why: &[u8]) -> Result<Reply, AllocError>
     ensures { IfOk result (λ reply. reply_view reply ≡ error_reply status why.now) }
 {
@@ -32,8 +32,8 @@ pub(crate) fn error_reply(alloc: Global, status: Status, why: &[u8]) -> Result<R
     })
 }
 
-/// The refusal of what is asked: of another path, or by another method. What is read is refused as
-/// what isn't written by `POST`, and a write as what isn't read by `GET`.
+/// The refusal of a request for another path, or by another method. A request that reads is told
+/// that it is written by `POST`, and a write that it is read by `GET`.
 pub(crate) fn refusal_of(alloc: Global, ask: Ask) -> Result<Reply, AllocError>
     ensures { IfOk result (λ reply. reply_view reply ≡ refusal_of ask) }
 {
@@ -46,7 +46,7 @@ pub(crate) fn refusal_of(alloc: Global, ask: Ask) -> Result<Reply, AllocError>
     }
 }
 
-/// Whether a precision that a write names isn't this one.
+/// Whether a write names a precision other than this one.
 fn is_other(named: &Option<Vec<u8>>, precision: Precision) -> bool
     ensures { result ≡ is_other precision (option_map (λ text. text.items) named.now) }
 {
@@ -56,7 +56,7 @@ fn is_other(named: &Option<Vec<u8>>, precision: Precision) -> bool
     }
 }
 
-/// The refusal of a write that names another precision than this one.
+/// The refusal of a write that names a precision other than this one.
 fn refuse_precision(alloc: Global, precision: Precision) -> Result<Reply, AllocError>
     ensures { IfOk result (λ reply. reply_view reply ≡ precision_refusal precision) }
 {
@@ -65,7 +65,7 @@ fn refuse_precision(alloc: Global, precision: Precision) -> Result<Reply, AllocE
     error_reply(alloc, Status::BadRequest, &why)
 }
 
-/// The refusal of lines by the coding of their body and by their query, if they are refused.
+/// The refusal of lines for the coding of their body or for their query, if they are refused.
 fn refused_lines(
     alloc: Global,
     is_encoded: bool,
@@ -86,10 +86,10 @@ fn refused_lines(
     Ok(None)
 }
 
-/// The reply to a request whose lines are not to be taken, before any is read, or none if they are
-/// to be taken: then the request is a `POST` to where lines are taken, its body has no content
-/// coding, and it names no other precision than this one of the node. The first of these is due:
-/// 404 or 405, 415, 400. The cost is linear in the target.
+/// The reply to a request whose lines are not to be taken, before any is read. None if they are to
+/// be taken: the request is a `POST` to where lines are taken, its body has no content coding, and
+/// it names no precision other than this one, the node's. The first of these to apply is given: 404
+/// or 405, 415, 400. The cost is linear in the target.
 pub fn refused_write(
     alloc: Global,
     request: &Request,

@@ -1,4 +1,4 @@
-//! Replies, before they are responses of HTTP.
+//! Replies, before they become HTTP responses.
 
 /// How a request ended.
 #[derive(Clone, Copy, Debug, PartialEq, Eq)]
@@ -11,22 +11,22 @@ pub(crate) enum Status {
     BadRequest,
     /// 404: there is no such thing.
     NotFound,
-    /// 405: it is asked for by `POST` alone.
+    /// 405: only `POST` may ask for it.
     OnlyPost,
-    /// 405: it is asked for by `GET` and `HEAD` alone.
+    /// 405: only `GET` and `HEAD` may ask for it.
     OnlyGet,
     /// 500: it isn't known what became of the request.
     Failed,
     /// 415: the body has a content coding, and none is undone here.
     UnknownCoding,
-    /// 503: the node is behind, or can acknowledge nothing. Nothing was done, so come again.
+    /// 503: the node is behind, or can acknowledge nothing. Nothing was done, so try again.
     Busy,
 }
 
 /// What a reply's text is.
 #[derive(Clone, Copy, Debug, PartialEq, Eq)]
 pub(crate) enum Kind {
-    /// Records of CSV.
+    /// CSV records.
     Csv,
     /// JSON.
     Json,
@@ -42,7 +42,7 @@ pub(crate) enum Kind {
     Style,
 }
 
-/// What is answered to a request.
+/// The reply to a request.
 #[derive(Debug, Drop)]
 pub struct Reply {
     /// How it ended.

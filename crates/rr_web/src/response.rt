@@ -1,4 +1,4 @@
-//! Replies as responses of HTTP.
+//! Replies as HTTP responses.
 
 ghost use Rattle.std.specs.Prelude.{◌≡◌, ◌∷◌, ◌++◌, [], IfOk, OnOk, map};
 ghost use Rattle.rr_connection.specs.Answer.{header_of, reply_view as response_view};
@@ -10,7 +10,7 @@ use crate::reply::{Kind, Reply, Status};
 use rr_connection::{Field, Reply as Response, Value};
 use std::alloc::{AllocError, Global};
 
-/// What the page may take from elsewhere: scripts, styles and answers of the node that it is of.
+/// What the page may load: scripts, styles and answers of its own node.
 const POLICY: &[u8] = b"default-src 'none'; script-src 'self'; style-src 'self'; \
     connect-src 'self'; base-uri 'none'; form-action 'none'; frame-ancestors 'none'";
 
@@ -61,8 +61,8 @@ fn push_field(
     Ok(())
 }
 
-/// Adds the field that a status comes with, if there is one. Clients of InfluxDB show the product
-/// as the version of the server: it is none of InfluxDB's.
+/// Adds the field that comes with a status, if there is one. Clients of InfluxDB show the product
+/// as the version of the server: it isn't one of InfluxDB's.
 fn push_for_status(
     fields: &mut Vec<Field>,
     status: Status,
@@ -92,7 +92,7 @@ fn push_policy(fields: &mut Vec<Field>, kind: Kind) -> Result<(), AllocError>
     }
 }
 
-/// Adds the fields of a text, whose kind a browser is not to guess, nor to keep the text.
+/// Adds the fields of a text: a browser must neither keep it nor guess its kind.
 fn push_for_text(fields: &mut Vec<Field>, kind: Kind) -> Result<(), AllocError>
     ensures { OnOk result (map header_of fields.new.items
         ≡ map header_of fields.old.items ++ text_fields kind) }
@@ -132,8 +132,8 @@ fn body_of(alloc: Global, status: Status, text: Vec<u8>) -> Vec<u8>
     }
 }
 
-/// A reply as a response of HTTP, after which its connection stays: its code, its fields and its
-/// text. The response of 204 has no body and no kind, and names the product, such as `rr-2`.
+/// A reply as an HTTP response, after which its connection stays: its code, its fields and its
+/// text. The response with 204 has no body and no kind, and names the product, such as `rr-2`.
 pub fn response_of(
     alloc: Global,
     reply: Reply,

@@ -10,7 +10,7 @@ use memchr::memrchr;
 use rr_text::bytes::{COMMA, LINE_FEED};
 use std::alloc::{AllocError, Global};
 
-/// What stands before the last comma, and what behind it; nothing and all, where there is none.
+/// What comes before the last comma, and what after it; nothing and all if there is none.
 fn cut_last(text: &[u8]) -> (&[u8], &[u8])
     ensures { (result.0.now, result.1.now) ≡ cut_last text.now }
 {
@@ -40,7 +40,7 @@ fn value_of(value: &[u8]) -> &[u8]
     }
 }
 
-/// Adds the row of a record behind a comma, if there is a record.
+/// Adds a comma and the row of a record, if there is a record.
 fn push_row(text: &mut Vec<u8>, line: &[u8]) -> Result<(), AllocError>
     ensures { OnOk result (text.new.items ≡ text.old.items ++ row_behind line.now) }
 {
@@ -63,7 +63,7 @@ fn lines_of(alloc: Global, records: &[u8]) -> Result<Vec<&[u8]>, AllocError>
     records.split(|byte| *byte == LINE_FEED).collect(alloc)
 }
 
-/// The rows of lines, each behind a comma.
+/// The rows of lines, each after a comma.
 fn rows_behind(alloc: Global, lines: &[&[u8]]) -> Result<Vec<u8>, AllocError>
     ensures { IfOk result (λ rows. rows.items
         ≡ flat_map row_behind (map (λ line. line.now) lines.now)) }
@@ -75,7 +75,7 @@ fn rows_behind(alloc: Global, lines: &[&[u8]]) -> Result<Vec<u8>, AllocError>
     Ok(rows)
 }
 
-/// The key, and the rows of the records that a fetch of it is answered with.
+/// The key, and the rows of the records that answer a fetch of it.
 pub(crate) fn fetch_json(alloc: Global, key: &[u8], records: &[u8]) -> Result<Vec<u8>, AllocError>
     ensures { IfOk result (λ text. text.items ≡ fetch_json key.now records.now) }
 {

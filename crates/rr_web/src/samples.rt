@@ -115,7 +115,7 @@ pub(crate) fn answer_samples(
     Ok(samples)
 }
 
-/// A number as an amount, if it is there.
+/// A number as an amount, if present.
 pub(crate) fn whole(number: Option<u64>) -> Option<Amount>
     ensures { result ≡ option_map Amount.Whole number }
 {
@@ -125,7 +125,7 @@ pub(crate) fn whole(number: Option<u64>) -> Option<Amount>
     }
 }
 
-/// Milliseconds as seconds, if they are there.
+/// Milliseconds as seconds, if present.
 pub(crate) fn seconds(milliseconds: Option<u64>) -> Option<Amount>
     ensures { result ≡ option_map Amount.Thousandths milliseconds }
 {
@@ -135,7 +135,7 @@ pub(crate) fn seconds(milliseconds: Option<u64>) -> Option<Amount>
     }
 }
 
-/// A sample of what there may be none of.
+/// A sample of an amount that may be absent.
 pub(crate) fn samples_of(alloc: Global, amount: Option<Amount>) -> Result<Vec<Sample>, AllocError>
     ensures { IfOk result (λ samples. map sample_view samples.items ≡ samples_of amount) }
 {

@@ -1,7 +1,7 @@
 //! The script of the page.
 
-/// Lists series, plots those that are chosen, and asks again every few seconds. It takes what it
-/// shows from `series`, `fetch` and `metrics`, which stand beside it.
+/// Lists series, plots those chosen, and asks again every few seconds. It takes what it shows from
+/// `series`, `fetch` and `metrics`, which stand beside it.
 pub(crate) const SCRIPT: &str =
     r##"// Lists series, plots those that are chosen, and asks again every few seconds.
 "use strict";

@@ -13,10 +13,10 @@ use rr_text::bytes::LINE_FEED;
 use rr_text::text::number;
 use std::alloc::{AllocError, Global};
 
-/// How many keys are answered at most, if a query doesn't say.
+/// The most keys that are given if a query doesn't say.
 const KEYS: u64 = 1_000;
 
-/// How many keys may be asked for.
+/// The most keys that may be asked for.
 const MAX_KEYS: u64 = 10_000;
 
 const _: () = prove!(KEYS == 1_000);
@@ -26,7 +26,7 @@ const _: () = prove!(MAX_KEYS == 10_000);
 /// Why a number of keys is refused.
 #[derive(Clone, Copy, Debug, PartialEq, Eq)]
 pub(crate) enum CountFault {
-    /// It is no number below 2^64.
+    /// It isn't a number below 2^64.
     BadNumber,
     /// It isn't from 1 to 10,000.
     BadCount,
@@ -44,7 +44,7 @@ impl CountFault {
     }
 }
 
-/// The number of keys that a text says.
+/// The number of keys that a text gives.
 fn count_at(text: &[u8]) -> Result<u64, CountFault>
     ensures { result ≡ count_at (number_at text.now) }
 {
@@ -55,8 +55,8 @@ fn count_at(text: &[u8]) -> Result<u64, CountFault>
     }
 }
 
-/// How many keys a query asks for as its `count`: 1,000 if it doesn't say. The cost is linear in
-/// the query.
+/// How many keys a query asks for by its `count`: 1,000 if it has none. The cost is linear in the
+/// query.
 pub(crate) fn count_in(alloc: Global, query: &[u8]) -> Result<Result<u64, CountFault>, AllocError>
     ensures { IfOk result (λ count. count ≡ count_in (parameter_of query.now (codes "count"))) }
 {
@@ -75,8 +75,8 @@ fn push_key(text: &mut Vec<u8>, key: &[u8]) -> Result<(), AllocError>
     Ok(())
 }
 
-/// Adds a line for each key that begins with a prefix, as long as so many are left. The answer is
-/// how many are left then. The cost is linear in the keys.
+/// Adds a line for each key that begins with a prefix, at most `count`, and returns what is left of
+/// the count. The cost is linear in the keys.
 pub(crate) fn push_keys(
     text: &mut Vec<u8>,
     keys: &[SeriesKey],
@@ -114,7 +114,7 @@ pub(crate) fn after_in(alloc: Global, query: &[u8]) -> Result<Option<SeriesKey>,
     }
 }
 
-/// The text that a query names as its `prefix`; an empty one if it names none.
+/// The text that a query names as its `prefix`; empty if it names none.
 pub(crate) fn prefix_in(alloc: Global, query: &[u8]) -> Result<Vec<u8>, AllocError>
     ensures { IfOk result (λ prefix. prefix.items ≡ prefix_of query.now) }
 {
@@ -124,7 +124,7 @@ pub(crate) fn prefix_in(alloc: Global, query: &[u8]) -> Result<Vec<u8>, AllocErr
     }
 }
 
-/// Whether a key is behind all those that begin with a prefix.
+/// Whether a key comes after all those that begin with a prefix.
 pub(crate) fn is_past(key: &SeriesKey, prefix: &[u8]) -> bool
     ensures { result ≡ is_past prefix.now key.now }
 {

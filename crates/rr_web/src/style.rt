@@ -1,6 +1,6 @@
 //! The style of the page.
 
-/// Light or dark, as the reader's system is.
+/// Light or dark, like the viewer's system.
 pub(crate) const STYLE: &str = r##":root {
     color-scheme: light dark;
     --paper: #fbfaf8; --ink: #1f2328; --faint: #6a737d; --rule: #dcdad5; --field: #ffffff;

@@ -7,7 +7,7 @@ ghost use Rattle.rr_web.specs.Target.{behind_scheme, parts_at, target_parts};
 use rr_text::bytes::{begins, strip};
 use rr_text::text::cut;
 
-/// Divides the parts of a path.
+/// Separates the parts of a path.
 const SLASH: u8 = b'/';
 
 /// Ends a scheme.
@@ -22,14 +22,14 @@ const _: () = prove!(COLON == 58);
 
 const _: () = prove!(QUESTION_MARK == 63);
 
-/// Whether a scheme is that of HTTP, which has no case.
+/// Whether a scheme is that of HTTP, ignoring case.
 fn is_http(scheme: &[u8]) -> bool
     ensures { result ≡ is_http scheme.now }
 {
     scheme.eq_ignore_ascii_case(b"http") || scheme.eq_ignore_ascii_case(b"https")
 }
 
-/// What follows a scheme of HTTP and two slashes, if a target begins with these.
+/// What follows an HTTP scheme and two slashes, if a target begins with these.
 fn behind_scheme(target: &[u8]) -> Option<&[u8]>
     ensures { option_map (λ rest. rest.now) result ≡ behind_scheme target.now }
 {
@@ -73,7 +73,7 @@ fn asked_at(target: &[u8]) -> &[u8]
     }
 }
 
-/// A path; an empty one is that of the root.
+/// A path, or that of the root if it is empty.
 fn or_root(path: &[u8]) -> &[u8]
     ensures { result.now ≡ or_root path.now }
 {
@@ -83,7 +83,7 @@ fn or_root(path: &[u8]) -> &[u8]
     }
 }
 
-/// What stands before the first question mark, and what behind it.
+/// What comes before the first question mark, and what after it.
 fn parts_at(text: &[u8]) -> (&[u8], &[u8])
     ensures { (result.0.now, result.1.now) ≡ parts_at text.now }
 {
@@ -93,10 +93,10 @@ fn parts_at(text: &[u8]) -> (&[u8], &[u8])
     }
 }
 
-/// The path and the query of a request's target (RFC 9112, section 3.2): what stands before its
-/// first question mark, and what behind it, which is nothing if there is none. A target in absolute
-/// form, such as `http://host:8086/fetch?cf=MAX`, is taken for what follows its authority; if no
-/// path does, that is `/`. The cost is linear in the target.
+/// The path and the query of a request's target (RFC 9112, section 3.2): what comes before its
+/// first question mark, and what after it, which is nothing if there is none. A target in absolute
+/// form, such as `http://host:8086/fetch?cf=MAX`, stands for what follows its authority; if no path
+/// does, the path is `/`. The cost is linear in the target.
 #[tactic(auto, unfolding(crate::specs::Target::target_parts))]
 pub fn target_parts(target: &[u8]) -> (&[u8], &[u8])
     ensures { (result.0.now, result.1.now) ≡ target_parts target.now }

@@ -1,4 +1,4 @@
-//! What is answered to a write, by what its lines were answered.
+//! The reply to a write, by the answers to its lines.
 
 ghost use Rattle.std.specs.Prelude.{◌≡◌, ◌++◌, IfOk, OnOk};
 ghost use Rattle.std.specs.List.{flat_map};
@@ -8,8 +8,8 @@ use crate::reply::{Kind, Reply, Status};
 use rr_text::bytes::LINE_FEED;
 use std::alloc::{AllocError, Global};
 
-/// Adds lines to a text of JSON: `; ` stands for the end of each. Their bytes are those of names
-/// and numbers, which JSON writes as they are.
+/// Adds lines to a JSON text, with `; ` for the end of each. Their bytes are those of names and
+/// numbers, which JSON writes as they are.
 fn push_inside(text: &mut Vec<u8>, lines: &[u8]) -> Result<(), AllocError>
     ensures { OnOk result (text.new.items ≡ text.old.items ++ flat_map inside lines.now) }
 {
@@ -23,8 +23,7 @@ fn push_inside(text: &mut Vec<u8>, lines: &[u8]) -> Result<(), AllocError>
     Ok(())
 }
 
-/// What a sender for InfluxDB takes for a refusal of some lines: it sends the others no second
-/// time.
+/// What a sender for InfluxDB takes for a refusal of some lines: it doesn't send the others again.
 fn partial_text(alloc: Global, refusals: &[u8], report: &[u8]) -> Result<Vec<u8>, AllocError>
     ensures { IfOk result (λ text. text.items ≡ partial_text refusals.now report.now) }
 {
@@ -35,7 +34,7 @@ fn partial_text(alloc: Global, refusals: &[u8], report: &[u8]) -> Result<Vec<u8>
     Ok(text)
 }
 
-/// A request that failed, and why, as JSON.
+/// The reply to a request that failed, with the reason, as JSON.
 fn failed(alloc: Global, text: &[u8]) -> Result<Reply, AllocError>
     ensures { IfOk result (λ reply. reply_view reply
         ≡ reply_of Status.Failed Kind.Json text.now) }
@@ -47,10 +46,10 @@ fn failed(alloc: Global, text: &[u8]) -> Result<Reply, AllocError>
     })
 }
 
-/// What is answered to a write whose lines were answered by these refusals and this report, which
-/// lacks its line feed; a report is missing where memory ran out before the end. If the write was
-/// to be answered once it is saved, and the save failed, it `is_unsaved`. The write is passed, by
-/// 204, exactly if its lines are saved as asked and none was refused.
+/// The reply to a write whose lines were answered by these refusals and this report, which lacks
+/// its line feed; there is no report if memory ran out before the end. The write `is_unsaved` if it
+/// was to be answered once saved, and the save failed. It is answered 204 exactly if its lines are
+/// saved as asked and none was refused.
 pub fn write_reply(
     alloc: Global,
     refusals: &[u8],

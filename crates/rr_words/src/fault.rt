@@ -8,7 +8,7 @@ use thiserror::Error;
 /// Why the words of a command line are refused.
 #[derive(Debug, Drop, Error)]
 pub enum WordsFault {
-    /// The words are none of the program's, or ask for its help; with the text for standard error.
+    /// The words aren't the program's, or ask for its help; with the text for standard error.
     #[error("{0}")]
     Refused(String),
     /// Memory ran out.

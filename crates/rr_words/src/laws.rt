@@ -1,14 +1,14 @@
-//! What the definition of command lines makes of them: functions with empty bodies, whose contracts
-//! say it.
+//! What the definition of command lines makes of them, stated by the contracts of functions with
+//! empty bodies.
 
 ghost use Rattle.std.specs.Prelude.{◌≡◌, ℕ, List, [], ◌∷◌, ◌++◌, pos, negsuc, codes, None, Some};
 ghost use Rattle.rr_line.specs.declared.precision.Precision.TheVariants.{Ns, Us, Ms, S};
 ghost use Rattle.rr_words.specs.Words.{AskFor, AskForNothing, asked_at, check_lines, journal, lines_asked_by, node, node_asked_by, serve, serve_asked_by, sim};
 ghost use Rattle.rr_words.specs.declared.order.JournalWord.TheVariants.{Check, Cells};
 
-/// The options of `check-lines` take any text as their value, in either order; what they ask for is
-/// then up to these texts. A script's file may have any name, and so may the files of `serve`
-/// and `node`, and a node's directory.
+/// The options of `check-lines` take any text as their value, in either order; what they ask for
+/// then depends on these texts. A script's file may have any name, as may the files of `serve` and
+/// `node`, and a node's directory.
 pub fn values_are_any_text()
     ensures file { (f : List ℕ) → AskFor (codes "sim" ∷ codes "--" ∷ f ∷ []) (sim (Some f)) }
     ensures precision { (p : List ℕ) → asked_at (codes "check-lines" ∷ (codes "--precision=" ++ p) ∷ [])
@@ -29,7 +29,7 @@ pub fn values_are_any_text()
         ≡ node_asked_by (Some (codes "c")) (Some d) (Some l) }
 {}
 
-/// Command lines of each kind, written out, ask for what they are to ask for, or are refused.
+/// Command lines of each kind, written out, ask for what they should, or are refused.
 pub fn command_lines_are_read()
     ensures no_words { AskFor [] (sim None) }
     ensures sim { AskFor (codes "sim" ∷ []) (sim None) }

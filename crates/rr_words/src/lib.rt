@@ -8,10 +8,10 @@
 //! journal check|cells DIR                                 Order::Journal
 //! ```
 //!
-//! [`read_words`] makes an [`Order`] of words, or a [`WordsFault`] with the text for whoever wrote
-//! them. In `specs/` what words ask for (`Words.antt`) is a function of the words and of the rules
-//! that `clap` reads them by ([`rr_command_line`]); [`laws`] says what it makes of written-out
-//! ones.
+//! [`read_words`] turns words into an [`Order`], or a [`WordsFault`] with the text for whoever
+//! wrote them. In `specs/` what words ask for (`Words.antt`) is a function of the words and of the
+//! rules by which `clap` reads them ([`rr_command_line`]); [`laws`] says what it makes of words
+//! written out.
 #![tactic(auto)]
 
 mod fault;

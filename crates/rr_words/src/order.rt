@@ -3,7 +3,7 @@
 use rr_line::Precision;
 use rr_schema::Origin;
 
-/// What of a data directory is asked for.
+/// What is asked of a data directory.
 #[derive(Clone, Copy, Debug, PartialEq, Eq)]
 pub enum JournalWord {
     /// Whether a node would start from it.
@@ -17,7 +17,7 @@ pub enum JournalWord {
 pub enum Order {
     /// To run a script.
     Sim {
-        /// The script's file; standard input where there is none.
+        /// The script's file; standard input if there is none.
         file: Option<String>,
     },
     /// To check lines on standard input.
@@ -49,7 +49,7 @@ pub enum Order {
     },
     /// To read the data directory of a node.
     Journal {
-        /// What of it.
+        /// What is asked of it.
         what: JournalWord,
         /// The directory.
         folder: String,

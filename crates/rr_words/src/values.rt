@@ -11,14 +11,14 @@ use rr_schema::Origin;
 use rr_text::text::{integer, number};
 use std::alloc::{AllocError, Global};
 
-/// The value of an argument, if it is written.
+/// The value of an argument, if it is given.
 pub(crate) fn value_of<'a>(matches: &ArgMatches<'a>, id: &str) -> Option<&'a str>
     ensures { option_map (λ s. s.now) result ≡ first_of id.now (rows_of (found_of matches.now)) }
 {
     matches.get_str(id)
 }
 
-/// A text of the caller's own.
+/// An owned copy of a text.
 pub(crate) fn owned(alloc: Global, text: Option<&str>) -> Result<Option<String>, AllocError>
     ensures { IfOk result (λ o. option_map string_bytes o ≡ option_map (λ s. s.now) text.entry) }
 {
@@ -28,7 +28,7 @@ pub(crate) fn owned(alloc: Global, text: Option<&str>) -> Result<Option<String>,
     }
 }
 
-/// The precision that a text names; nanoseconds where there is none.
+/// The precision that a text names; nanoseconds if there is none.
 pub(crate) fn precision_of(text: Option<&str>) -> Option<Precision>
     ensures { result ≡ precision_at (option_map (λ s. s.now) text.entry) }
 {
@@ -38,7 +38,7 @@ pub(crate) fn precision_of(text: Option<&str>) -> Option<Precision>
     }
 }
 
-/// The moment that a text writes; 0 where there is none.
+/// The moment that a text writes; 0 if there is none.
 pub(crate) fn moment_of(text: Option<&str>) -> Option<i64>
     ensures { result ≡ moment_at (option_map (λ s. s.now) text.entry) }
 {
@@ -48,7 +48,7 @@ pub(crate) fn moment_of(text: Option<&str>) -> Option<i64>
     }
 }
 
-/// What of a data directory a text asks for.
+/// What a text asks of a data directory.
 pub(crate) fn journal_word_of(text: Option<&str>) -> Option<JournalWord>
     ensures { result ≡ journal_word_in (option_map (λ s. s.now) text.entry) }
 {

@@ -28,7 +28,7 @@ const NOT_TEXT: &str = "invalid UTF-8 was detected in one or more arguments";
 
 const UNKNOWN_COMMAND: &str = "unrecognized subcommand";
 
-/// The text of an error of `clap`.
+/// The fault with the text of a `clap` error.
 fn words_fault(alloc: Global, error: &Error) -> WordsFault
     ensures { kind_of error.now ≡ ErrorKind.OutOfMemory → result ≡ WordsFault.Memory }
 {
@@ -41,7 +41,7 @@ fn words_fault(alloc: Global, error: &Error) -> WordsFault
     }
 }
 
-/// The refusal of a value, in the form of those of `clap`.
+/// The refusal of a value, in the form that `clap` uses.
 fn value_fault(alloc: Global, command: &mut Command<'_>, message: &str) -> WordsFault {
     match command.error(ErrorKind::InvalidValue, message) {
         Ok(error) => words_fault(alloc, &error),
@@ -174,9 +174,9 @@ pub fn not_text(alloc: Global) -> WordsFault {
 
 /// The order that the words after the program's name ask for.
 ///
-/// The rules for words are those of `clap`: an option may be written as `--now T` or `--now=T`,
-/// and what begins with `-` is a value only in the latter. `--help` is refused
-/// with the help text, and `--version` with the version.
+/// The rules for words are those of `clap`: an option may be written as `--now T` or `--now=T`, and
+/// what begins with `-` is a value only in the latter. `--help` is refused with the help text, and
+/// `--version` with the version.
 pub fn read_words(alloc: Global, words: &[&str]) -> Result<Order, WordsFault>
     ensures asked { IfOk result (λ order.
         asked_at (map (λ word. word.now) words.now) ≡ Some (asked_by order)) }

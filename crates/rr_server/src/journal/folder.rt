@@ -1,4 +1,4 @@
-//! A directory of the host's.
+//! A directory of the host.
 
 use rr_directory::{Directory, DirectoryFault, FileName};
 use rr_process::{ToolFault, file_fault};
@@ -7,7 +7,7 @@ use std::io::{BufReader, ErrorKind};
 use std::rt::Files;
 use std::{fs, io};
 
-/// A directory of the host's, at a path. What can't be read is named on standard error.
+/// A directory of the host, at a path. What can't be read is named on standard error.
 #[derive(Drop)]
 pub(crate) struct Folder<'a, R> {
     rt: &'a R,
@@ -31,7 +31,7 @@ impl<'a, R: Files + Eprint> Folder<'a, R> {
         Ok(path)
     }
 
-    /// The fault of a call, which is told.
+    /// The fault of a failed call, which is reported.
     fn fault(&self, path: &str, error: &io::Error) -> DirectoryFault {
         match file_fault(self.rt, path, error) {
             ToolFault::Memory => DirectoryFault::Memory,

@@ -1,4 +1,4 @@
-//! What peers bring, as who keeps takes it.
+//! What peers bring, as the keeper takes it.
 
 use crate::node::keeping::is_written;
 use crate::node::link::PeerLink;
@@ -16,7 +16,7 @@ use std::io::{Seek, Write};
 use std::sync::Wait;
 use std::time::Clock;
 
-/// How many cells of peers are joined in a batch at most, so that lines don't wait for longer.
+/// The most cells of peers joined in a batch, so that lines don't wait longer.
 const CELLS: usize = 8_192;
 
 /// What one peer brought.
@@ -26,7 +26,7 @@ struct Arrival {
     delivery: Option<Delivery>,
     /// How many of its cells are joined.
     joined: usize,
-    /// Whether it was told that the peer has cells of the node's own origin.
+    /// Whether the operator was told that the peer has cells of the node's own origin.
     is_own_told: bool,
 }
 
@@ -40,7 +40,7 @@ pub(crate) struct Arrivals {
 }
 
 impl Arrival {
-    /// Takes what waits, if all that was taken before is done with.
+    /// Takes the waiting delivery, if the one taken before is done with.
     fn take<R: Wait>(&mut self, rt: &R) {
         if self.delivery.is_some() {
             return;
@@ -50,7 +50,7 @@ impl Arrival {
         self.joined = 0;
     }
 
-    /// How many cells are left to be joined.
+    /// How many cells are left to join.
     fn left(&self) -> usize {
         match &self.delivery {
             Some(delivery) => delivery.cells.len().saturating_sub(self.joined),
@@ -83,19 +83,19 @@ impl Arrival {
         Ok(())
     }
 
-    /// Lets go of what is joined and recorded.
+    /// Lets go of a delivery that is joined and recorded.
     fn finish<R: Wait>(&mut self, rt: &R) {
         self.delivery = None;
         let mailbox: &Mailbox = &self.link.mailbox;
         mailbox.done(rt);
     }
 
-    /// Whether all cells are joined of what was taken.
+    /// Whether all cells of the delivery are joined.
     fn is_joined(&self) -> bool {
         self.delivery.is_some() && self.left() == 0
     }
 
-    /// Up to where the journal is read then.
+    /// How far the peer's journal is read then.
     fn read(&self) -> Option<Cursor> {
         match &self.delivery {
             Some(delivery) => delivery.read,
@@ -105,7 +105,7 @@ impl Arrival {
 }
 
 impl Arrivals {
-    /// Nothing was brought yet by the peers of these links; how far journals were read is this.
+    /// With nothing brought yet by the peers of these links, and journals read up to these cursors.
     pub(crate) fn new(
         alloc: Global,
         links: Vec<PeerLink>,
@@ -127,7 +127,7 @@ impl Arrivals {
         })
     }
 
-    /// Whether cells are left to be joined of what was taken.
+    /// Whether any cells taken are left to join.
     pub(crate) fn has_left(&self) -> bool {
         for arrival in &self.arrivals {
             if arrival.left() > 0 {
@@ -137,8 +137,8 @@ impl Arrivals {
         false
     }
 
-    /// Joins the next cells of what peers brought, of each as many as of any other, and says whether
-    /// there is anything to be committed.
+    /// Joins the next cells that peers brought, at most an equal share from each, and returns
+    /// whether there is anything to commit.
     pub(crate) fn join<R: Eprint + Wait>(
         &mut self,
         rt: &R,
@@ -154,8 +154,9 @@ impl Arrivals {
         Ok(has_more)
     }
 
-    /// Records how far journals are read of which all that was brought is joined and saved, and says so
-    /// to their peers. What can't be recorded now is recorded later; the answer is whether all is.
+    /// Records how far each journal is read once all that its peer brought is joined and saved, and
+    /// tells the peer's thread. What can't be recorded now is recorded later; returns whether all
+    /// is.
     pub(crate) fn settle<R: Wait, F: Write + Seek + OpenFile>(
         &mut self,
         rt: &R,
@@ -179,7 +180,7 @@ impl Arrivals {
         Ok(is_settled)
     }
 
-    /// Records all of how far journals are read, in a new file of the journal, and says whether that is
+    /// Records how far all journals are read, in a new journal file, and returns whether that is
     /// saved.
     pub(crate) fn record<F: Write + Seek + OpenFile>(
         &self,

@@ -1,4 +1,4 @@
-//! Who writes checkpoints.
+//! Writes checkpoints.
 
 use crate::files::tell;
 use crate::node::shared::{Desired, Shared};
@@ -18,18 +18,18 @@ use std::sync::Wait;
 use std::sync::atomic::{AtomicU64, Ordering};
 use std::time::{Clock, Duration};
 
-/// How many keys are looked at at a time.
+/// How many keys are read at a time.
 const KEYS: usize = 1_000;
 
-/// Seconds between two counts of the series.
+/// How many rounds, of at most a second each, pass between two counts of the series.
 const ROUNDS: u64 = 10;
 
-/// Writes checkpoints from a thread of its own. [`Files`] has types of its own, which can't be shown
-/// to be safe on another thread than the first; so what the others do with files is in here, where
-/// there are none.
+/// Writes checkpoints on a thread of its own. [`Files`] has associated types, which can't be shown
+/// to be safe on any thread but the first; so what the others do with files is in this trait, which
+/// has none.
 pub trait Checkpointing {
-    /// Writes a checkpoint that begins at a place, in the directory at a path, and removes the files
-    /// that it makes needless. The answer is how many bytes it has.
+    /// Writes a checkpoint that begins at a place, in the directory at a path, and removes the
+    /// files that it makes needless. Returns its size in bytes.
     fn checkpoint(
         &self,
         alloc: Global,
@@ -54,7 +54,7 @@ impl Checkpointing for HostRuntime {
     }
 }
 
-/// Who writes checkpoints while the node goes on, on a thread of its own.
+/// Writes checkpoints on a thread of its own, while the node goes on.
 #[derive(Drop)]
 pub(crate) struct Checkpoints {
     pub(crate) alloc: Global,
@@ -62,12 +62,12 @@ pub(crate) struct Checkpoints {
     pub(crate) shared: Shared,
     /// The directory.
     pub(crate) path: String,
-    /// Where the journal ended when the series were counted last.
+    /// Where the journal ended when the series were last counted.
     pub(crate) counted: Option<u64>,
 }
 
-/// Writes a checkpoint that begins at a place, and gives it its name. The answer is how many bytes it
-/// has. What the journal has up to there was published before this was asked for, so a reader that
+/// Writes a checkpoint that begins at a place, gives it its name, and returns its size in bytes.
+/// What the journal has up to there was published before this was asked for, so a reader that
 /// enters now sees it.
 pub(crate) fn write_checkpoint_file<R: Files>(
     alloc: Global,
@@ -103,8 +103,8 @@ fn remove_needless<R: Files>(alloc: Global, directory: &DataDirectory<'_, R>) {
     }
 }
 
-/// Writes a checkpoint in the directory at a path. The answer is how many bytes it has, if it is there;
-/// if it is not, that is told.
+/// Writes a checkpoint in the directory at a path, and returns its size in bytes; a failure is
+/// reported.
 fn written<R: Checkpointing + Eprint>(
     rt: &R,
     alloc: Global,
@@ -130,8 +130,7 @@ impl Checkpoints {
         checkpoints.end(rt, bytes);
     }
 
-    /// How many series there are that have a cell, unless memory runs out. Readers and the keeper go
-    /// on meanwhile.
+    /// How many series have a cell, unless memory runs out. Readers and the keeper go on meanwhile.
     fn series(&mut self) -> Result<u64, AllocError> {
         let mut count = 0u64;
         let mut after = None;
@@ -147,7 +146,7 @@ impl Checkpoints {
         Ok(count)
     }
 
-    /// Counts the series, at most once in ten seconds, if the journal has gone on since.
+    /// Counts the series, once in ten rounds, if the journal has gone on since.
     fn count_series(&mut self, round: u64) {
         let end = Some(self.shared.journal_end.load(Ordering::SeqCst));
         if round % ROUNDS != 0 || end == self.counted {
@@ -160,19 +159,19 @@ impl Checkpoints {
         }
     }
 
-    /// Whether the node ends.
+    /// Whether the node is ending.
     fn is_halted(&self) -> bool {
         let queues: &Queues = &self.shared.queues;
         queues.is_halted()
     }
 
-    /// The checkpoint that is asked for next, if one is within a second.
+    /// The next checkpoint asked for, if one is within a second.
     fn next<R: Wait + Clock>(&self, rt: &R) -> Option<Cursor> {
         let checkpoints: &Desired = &self.shared.checkpoints;
         checkpoints.begin(rt, Duration::from_secs(1))
     }
 
-    /// Writes those that are asked for, until the node ends.
+    /// Writes the checkpoints asked for, until the node ends.
     pub(crate) fn serve<R: Checkpointing + Eprint + Wait + Clock>(&mut self, rt: &R) {
         for round in 0..u64::MAX {
             self.count_series(round);

@@ -7,7 +7,7 @@ use rr_process::Ending;
 use std::io;
 use std::io::ErrorKind;
 
-/// The ending where a call of the system failed, which is told.
+/// The ending after a failed system call, which is reported.
 pub(crate) fn failed(rt: &impl Eprint, path: &str, error: &io::Error) -> Ending {
     if error.kind() == ErrorKind::OutOfMemory {
         return OUT_OF_MEMORY;
@@ -16,7 +16,7 @@ pub(crate) fn failed(rt: &impl Eprint, path: &str, error: &io::Error) -> Ending 
     Ending::Stopped
 }
 
-/// The ending where a directory can't be read.
+/// The ending when a directory can't be read.
 pub(crate) fn directory_ending(rt: &impl Eprint, path: &str, fault: DirectoryFault) -> Ending {
     match fault {
         DirectoryFault::Memory => OUT_OF_MEMORY,
@@ -27,7 +27,7 @@ pub(crate) fn directory_ending(rt: &impl Eprint, path: &str, fault: DirectoryFau
     }
 }
 
-/// The ending where a file is refused, which is told with its name and its reason.
+/// The ending when a file is refused, which is reported with its name and the reason.
 pub(crate) fn refusal_ending(
     rt: &(impl AllocGlobal + Eprint),
     path: &str,

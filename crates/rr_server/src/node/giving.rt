@@ -1,4 +1,4 @@
-//! Who gives peers what they ask for.
+//! Gives peers what they ask for.
 
 use crate::node::shared::Shared;
 use rr_connection::Reply;
@@ -14,11 +14,11 @@ use std::io::ErrorKind;
 use std::rt::Files;
 use std::sync::atomic::Ordering;
 
-/// Reads the files of a journal from threads of their own: see
+/// Reads the files of a journal on threads of their own: see
 /// [`Checkpointing`](crate::node::Checkpointing).
 pub trait JournalParts {
-    /// The bytes of the journal in the directory at a path that are given from an offset on. It is
-    /// synced up to the offset `end`, and each of its files has a header of so many bytes.
+    /// The bytes given of the journal in the directory at a path, from an offset on. The journal is
+    /// synced up to the offset `end`, and each of its files has a header of this many bytes.
     fn journal_part(
         &self,
         alloc: Global,
@@ -28,8 +28,8 @@ pub trait JournalParts {
         from: u64,
     ) -> io::Result<Given>;
 
-    /// The bytes of the checkpoint that begins at an offset, or of the newest one, from a byte on. They
-    /// are gone where the file ends before that.
+    /// The bytes of the checkpoint that begins at an offset, or of the newest one, from a byte on.
+    /// They are gone if the file ends before that.
     fn checkpoint_part(
         &self,
         alloc: Global,
@@ -50,7 +50,7 @@ fn names_in<R: Files>(
     }
 }
 
-/// Where the files of the journal begin.
+/// The offsets at which the journal's files begin.
 fn journal_offsets(alloc: Global, names: &[FileName]) -> Result<Vec<u64>, AllocError> {
     let mut offsets = Vec::new(alloc);
     for name in names {
@@ -137,7 +137,7 @@ impl JournalParts for HostRuntime {
     }
 }
 
-/// What is given to peers: a node's journal and its checkpoints.
+/// Gives peers a node's journal and its checkpoints.
 #[derive(Drop)]
 pub(crate) struct Giver {
     alloc: Global,
@@ -146,12 +146,12 @@ pub(crate) struct Giver {
     /// The id of the journal, and the schema, in hexadecimal digits.
     id: Vec<u8>,
     schema: Vec<u8>,
-    /// How many bytes the header of a file has.
+    /// The size of a file's header in bytes.
     header: u64,
 }
 
 impl Giver {
-    /// What is given of the journal of an id, in the directory at a path.
+    /// A giver of the journal with this id, in the directory at a path.
     pub(crate) fn new(
         alloc: Global,
         path: &str,
@@ -180,7 +180,7 @@ impl Giver {
         other_schema || other_decimals
     }
 
-    /// Whether a peer asks for another journal than this one.
+    /// Whether a peer asks for a journal other than this one.
     fn is_of_another(&self, asked: &PartQuery) -> bool {
         match &asked.id {
             Some(id) => id.as_slice() != self.id.as_slice(),
@@ -199,8 +199,8 @@ impl Giver {
         rt.journal_part(self.alloc, self.path.as_str(), self.header, end, from)
     }
 
-    /// The answer to a request for the journal, or for a checkpoint. Where the journal is, is told to
-    /// who asks for no bytes of it, and with bytes of it.
+    /// The answer to a request for the journal, or for a checkpoint. The journal's place is told to
+    /// those who ask for no bytes of it, and along with its bytes.
     pub(crate) fn answer<R: JournalParts + Eprint>(
         &self,
         rt: &R,

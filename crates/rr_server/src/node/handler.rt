@@ -1,4 +1,4 @@
-//! Those who answer requests that read.
+//! Handlers of read requests.
 
 use crate::clock::SystemClock;
 use crate::node::giving::{Giver, JournalParts};
@@ -18,13 +18,13 @@ use std::{io, time};
 /// Why a node can acknowledge nothing.
 const FAILURE: &[u8] = b"the journal can't be written";
 
-/// Who answers requests that read, on a thread of its own.
+/// Answers read requests, on a thread of its own.
 #[derive(Drop)]
 pub(crate) struct Handler {
     pub(crate) alloc: Global,
     pub(crate) reader: Reader<PackedArchive>,
     pub(crate) shared: Shared,
-    /// What peers are given.
+    /// Gives peers what they ask for.
     pub(crate) giver: Giver,
 }
 
@@ -68,7 +68,7 @@ impl Handler {
         };
         let failure = self.failure();
         let mut clock = SystemClock::new(rt);
-        // The second after the present one, up to which `last` counts.
+        // The next second, up to which `last` counts.
         let now = clock.now().div_euclid(1_000_000_000).saturating_add(1);
         let reply = read_reply(
             self.alloc,
@@ -81,7 +81,8 @@ impl Handler {
         response_of(self.alloc, reply, PRODUCT)
     }
 
-    /// What comes of an item. Where memory runs out or a file can't be read, its connection is closed.
+    /// The outcome of an item. If memory runs out or a file can't be read, its connection is
+    /// closed.
     fn outcome<T: JournalParts + Eprint + Wait + time::Clock>(
         &mut self,
         rt: &T,

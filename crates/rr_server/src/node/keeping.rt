@@ -23,10 +23,10 @@ use std::sync::Wait;
 use std::time;
 use std::time::Duration;
 
-/// A batch takes no further item where it has as many bytes: 8 MiB.
+/// A batch of this many bytes takes no further item: 8 MiB.
 const BATCH: usize = 8 * 1024 * 1024;
 
-/// What who keeps remembers from batch to batch.
+/// What the keeper remembers from batch to batch.
 #[derive(Drop)]
 pub(crate) struct Keeping<F> {
     pub(crate) alloc: Global,
@@ -39,8 +39,8 @@ pub(crate) struct Keeping<F> {
     pub(crate) is_saved: bool,
 }
 
-/// Whether a record is in the journal. Where it isn't written, a later one may be; after any other fault
-/// the node can't go on.
+/// Whether a record is in the journal. If it isn't written, a later one may be; after any other
+/// fault the node can't go on.
 pub(crate) fn is_written(committed: Result<(), ChangesFault>) -> Result<bool, BatchFault> {
     match committed {
         Ok(()) => Ok(true),
@@ -50,7 +50,7 @@ pub(crate) fn is_written(committed: Result<(), ChangesFault>) -> Result<bool, Ba
     }
 }
 
-/// The items that wait, but for what is beyond a batch; none where none comes within a time.
+/// The waiting items, until they reach the size of a batch; none if none comes in time.
 fn gather<R: Wait + time::Clock>(
     rt: &R,
     alloc: Global,
@@ -90,7 +90,7 @@ fn take_all<C: Clock, R: Wait>(
     Ok(batch)
 }
 
-/// Hands answers on, and counts them.
+/// Counts answers, and hands them on.
 fn answer_all<R: Wait>(rt: &R, shared: &Shared, answers: Vec<Answer>) {
     let queues: &Queues = &shared.queues;
     let answered: &Answered = &shared.answered;
@@ -120,7 +120,7 @@ impl<F: Write + Seek + OpenFile + Drop> Keeping<F> {
         )
     }
 
-    /// Says whether anything can be acknowledged, and tells where that has changed.
+    /// Notes whether anything can be acknowledged, and tells the operator when that changes.
     fn tell_health<R: Eprint + time::Clock>(&mut self, rt: &R, path: &str) {
         let was_failing = self.shared.is_failing.is_raised();
         if self.is_saved {
@@ -139,7 +139,7 @@ impl<F: Write + Seek + OpenFile + Drop> Keeping<F> {
         }
     }
 
-    /// Notes how the last checkpoint has ended.
+    /// Notes how the last checkpoint ended.
     fn note_checkpoint<R: Wait + time::Clock>(&mut self, rt: &R) {
         let checkpoints: &Desired = &self.shared.checkpoints;
         let Some(ended) = checkpoints.ended(rt) else {
@@ -152,9 +152,9 @@ impl<F: Write + Seek + OpenFile + Drop> Keeping<F> {
         }
     }
 
-    /// Records the origin of this start and how far the journals of peers are read, and says whether
-    /// that is saved. The files that have the first records of these go with the checkpoint that makes
-    /// them needless, so the next file has them too.
+    /// Records this start's origin and how far peers' journals are read, and returns whether that
+    /// is saved. The files with the first of these records go with the checkpoint that makes them
+    /// needless, so the next file has them too.
     fn record_again(&mut self) -> Result<bool, BatchFault> {
         let origin = self.numbers.origin();
         let logbook = &mut self.logbook;
@@ -165,9 +165,9 @@ impl<F: Write + Seek + OpenFile + Drop> Keeping<F> {
         Ok(is_recorded)
     }
 
-    /// Begins another file of the journal and asks for a checkpoint, where one is due. Where the file
-    /// can't be made, the journal goes on in the one that there is; where it can't be written, no
-    /// checkpoint is asked for.
+    /// If a checkpoint is due, begins another journal file and asks for the checkpoint. If the file
+    /// can't be made, the journal goes on in the current one; if it can't be written, no checkpoint
+    /// is asked for.
     fn ask_for_checkpoint<R: Files<File = F> + Eprint + Wait>(
         &mut self,
         rt: &R,
@@ -212,7 +212,7 @@ impl<F: Write + Seek + OpenFile + Drop> Keeping<F> {
         self.ask_for_checkpoint(rt, path, keeper)
     }
 
-    /// Records how far the journals of peers are read, if all that is joined is saved.
+    /// Records how far peers' journals are read, if everything joined is saved.
     fn settle<R: Wait>(&mut self, rt: &R) -> Result<(), BatchFault> {
         if !self.is_saved {
             return Ok(());
@@ -226,7 +226,7 @@ impl<F: Write + Seek + OpenFile + Drop> Keeping<F> {
         Ok(())
     }
 
-    /// Puts the numbers up as they stand, and then takes what waits, commits and answers it.
+    /// Posts the numbers as they stand, then takes, commits and answers what is waiting.
     fn round<C: Clock, R: Files<File = F> + Eprint + Wait + time::Clock>(
         &mut self,
         rt: &R,
@@ -266,7 +266,7 @@ impl<F: Write + Seek + OpenFile + Drop> Keeping<F> {
         queues.is_halted()
     }
 
-    /// Keeps until the node can't go on, or another thread of it has ended.
+    /// Runs the keeper until the node can't go on or another of its threads has ended.
     pub(crate) fn serve<C: Clock, R: Files<File = F> + Eprint + Wait + time::Clock>(
         &mut self,
         rt: &R,

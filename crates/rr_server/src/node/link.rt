@@ -1,4 +1,4 @@
-//! What the thread of a peer shares with who keeps.
+//! What a peer's thread shares with the keeper.
 
 use crate::node::mailbox::Mailbox;
 use rr_web::PeerNumbers;
@@ -7,19 +7,19 @@ use std::sync::atomic::{AtomicBool, AtomicU64, Ordering};
 use std::sync::{Arc, Mutex, Wait};
 use std::time::{Clock, Duration, Instant};
 
-/// How a peer is followed.
+/// How following a peer stands.
 #[derive(Drop)]
 pub(crate) struct Standing {
     /// Whether its last answer was taken.
     is_up: AtomicBool,
     /// How many bytes of its journal aren't read yet.
     lag: AtomicU64,
-    /// When all of it was read last, or this node began.
+    /// When all of it was last read, or this node began.
     read: Mutex<Option<Instant>>,
 }
 
 impl Standing {
-    /// Nothing is read yet, since now.
+    /// Nothing read yet, as of now.
     fn new(clock: &impl Clock) -> Standing {
         Standing {
             is_up: AtomicBool::new(false),
@@ -60,7 +60,7 @@ impl Standing {
     }
 }
 
-/// What the thread of a peer shares with who keeps.
+/// What a peer's thread shares with the keeper.
 #[derive(Drop)]
 pub(crate) struct PeerLink {
     /// The number of the peer, counted from 1 as in the configuration.
@@ -72,7 +72,7 @@ pub(crate) struct PeerLink {
 }
 
 impl PeerLink {
-    /// That of the peer with a number, at an address.
+    /// The link to the peer with a number, at an address.
     pub(crate) fn new(
         alloc: Global,
         clock: &impl Clock,

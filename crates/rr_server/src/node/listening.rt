@@ -9,7 +9,7 @@ use std::io;
 use std::io::ErrorKind;
 use std::net::{Net, SocketAddr, ToSocketAddrs};
 
-/// What connections may take, by a configuration.
+/// The limits of connections under a configuration.
 fn limits_of(config: &NodeConfig) -> Limits {
     let idle = config.idle.saturating_mul(1_000);
     let usual = Limits::usual();
@@ -30,7 +30,7 @@ fn address_of<R: Net>(rt: &R, text: &str) -> io::Result<SocketAddr> {
     }
 }
 
-/// The ending where an address can't be listened on, which is told.
+/// The ending when an address can't be listened on, which is reported.
 fn bad_address(rt: &impl Eprint, text: &str, error: &io::Error) -> Ending {
     if error.kind() == ErrorKind::OutOfMemory {
         return OUT_OF_MEMORY;
@@ -39,7 +39,7 @@ fn bad_address(rt: &impl Eprint, text: &str, error: &io::Error) -> Ending {
     Ending::BadAddress
 }
 
-/// Listens at the addresses of a configuration.
+/// Listens on the addresses of a configuration.
 pub(crate) fn listen<R: AllocGlobal + Net + Eprint>(
     rt: &R,
     config: &NodeConfig,

@@ -17,7 +17,7 @@ use std::io::{Seek, Write};
 /// How many records are committed at a time.
 const RECORDS: usize = 16;
 
-/// Adds the records of the next cells of a replica, and answers the last of these cells; none if no
+/// Adds the records of the next cells of a replica, and returns the last of these cells; none if no
 /// more follow.
 #[tactic(auto, using(crate::proofs::FitLemmas::all_fit_pushed))]
 fn push_records<A: Cells>(

@@ -1,4 +1,4 @@
-//! What a peer brings, handed to who keeps.
+//! What a peer brings, handed to the keeper.
 
 use rr_cells::Cell;
 use rr_journal::Cursor;
@@ -12,7 +12,7 @@ use std::time::{Clock, Duration};
 pub(crate) struct Delivery {
     /// Cells, to be joined in order.
     pub(crate) cells: Vec<Cell>,
-    /// Up to where the peer's journal is read once they are joined, if that is to be recorded.
+    /// How far the peer's journal is read once they are joined, if that is to be recorded.
     pub(crate) read: Option<Cursor>,
 }
 
@@ -23,11 +23,11 @@ enum Mail {
     None,
     /// It waits to be taken.
     Waiting(Delivery),
-    /// Whoever keeps has it.
+    /// The keeper has it.
     Taken,
 }
 
-/// Through which the thread of a peer hands deliveries to who keeps, one at a time.
+/// Where a peer's thread hands deliveries to the keeper, one at a time.
 #[derive(Drop)]
 pub(crate) struct Mailbox {
     mail: Mutex<Mail>,
@@ -35,7 +35,7 @@ pub(crate) struct Mailbox {
 }
 
 impl Mailbox {
-    /// An empty one.
+    /// An empty mailbox.
     pub(crate) fn new() -> Mailbox {
         Mailbox {
             mail: Mutex::new(Mail::None),
@@ -43,7 +43,7 @@ impl Mailbox {
         }
     }
 
-    /// Whether the last delivery is done with, which is waited for, for a second at most.
+    /// Whether the last delivery is done with, after waiting for that for a second at most.
     fn is_done<R: Wait + Clock>(&self, rt: &R) -> bool {
         let second = Duration::from_secs(1);
         let (mail, _timed_out) = self
@@ -54,8 +54,8 @@ impl Mailbox {
         matches!(&*mail, Mail::None)
     }
 
-    /// Hands a delivery over, and waits until it is done with or the node ends: the answer is whether
-    /// it is done with.
+    /// Hands over a delivery, and waits until it is done with or the node ends. Returns whether it
+    /// is done with.
     pub(crate) fn deliver<R: Wait + Clock>(
         &self,
         rt: &R,
@@ -83,7 +83,7 @@ impl Mailbox {
             .wait_timeout_while(rt, self.mail.lock(rt), second, |_| true);
     }
 
-    /// Takes the delivery that waits, if one does.
+    /// Takes the waiting delivery, if there is one.
     pub(crate) fn take<R: Wait>(&self, rt: &R) -> Option<Delivery> {
         let mut mail = self.mail.lock(rt);
         match mem::replace(&mut *mail, Mail::Taken) {
@@ -95,7 +95,7 @@ impl Mailbox {
         }
     }
 
-    /// Says that the delivery that was taken is done with.
+    /// Notes that the delivery taken is done with.
     pub(crate) fn done<R: Wait>(&self, rt: &R) {
         *self.mail.lock(rt) = Mail::None;
         self.changed.notify_one();

@@ -14,10 +14,10 @@ use std::sync::Wait;
 use std::sync::atomic::Ordering;
 use std::time::{Clock, Duration, Instant};
 
-/// The least seconds between two counts of the cells.
+/// The fewest seconds between two counts of the cells.
 const CELLS_EVERY: u64 = 10;
 
-/// A count of the cells takes time for each series: the next one comes after that many times as long.
+/// Counting the cells takes time for each series: the next count waits for this many times as long.
 const CELLS_SHARE: u32 = 1_000;
 
 /// What a keeper remembers for the numbers of its node.
@@ -26,19 +26,19 @@ pub(crate) struct Numbers {
     origin: Origin,
     failed_appends: u64,
     cells: usize,
-    /// When cells were counted last, where the journal ended then, and how long it is until they are
+    /// When cells were last counted, where the journal ended then, and how long until they are
     /// counted again.
     counted: Option<(Instant, u64)>,
     count_after: Duration,
-    /// When the numbers were put up last.
+    /// When the numbers were last posted.
     posted: Option<Instant>,
-    /// When the journal was synced last.
+    /// When the journal was last synced.
     synced: Option<Instant>,
-    /// When the last checkpoint ended, and its bytes.
+    /// When the last checkpoint ended, and its size in bytes.
     checkpoint: Option<(Instant, u64)>,
 }
 
-/// Whether a span of time is past since a moment.
+/// Whether a span of time has passed since a moment.
 fn is_past(clock: &impl Clock, since: &Instant, span: Duration) -> bool {
     since.elapsed(clock).unwrap_or(span) >= span
 }
@@ -50,7 +50,7 @@ fn age(clock: &impl Clock, since: &Instant) -> u64 {
 }
 
 impl Numbers {
-    /// Those of a node that has just begun under an origin.
+    /// The numbers of a node that has just begun under an origin.
     pub(crate) fn new(origin: Origin) -> Numbers {
         Numbers {
             origin,
@@ -79,7 +79,7 @@ impl Numbers {
         self.synced = Instant::now(clock).ok();
     }
 
-    /// Notes that a checkpoint has ended, by its size in bytes.
+    /// Notes that a checkpoint has ended, with its size in bytes.
     pub(crate) fn checkpoint_ended(&mut self, clock: &impl Clock, bytes: u64) {
         self.checkpoint = match Instant::now(clock) {
             Ok(now) => Some((now, bytes)),
@@ -87,8 +87,8 @@ impl Numbers {
         };
     }
 
-    /// Whether cells are to be counted, where the journal ends at an offset: it has gone on since they
-    /// were, and the pause is over.
+    /// Whether to count cells, with the journal ending at an offset: it has gone on since the last
+    /// count, and the pause is over.
     fn is_count_due(&self, clock: &impl Clock, offset: u64) -> bool {
         match &self.counted {
             Some((moment, end)) => *end != offset && is_past(clock, moment, self.count_after),
@@ -96,7 +96,7 @@ impl Numbers {
         }
     }
 
-    /// Counts the cells, where there may be others, at most every ten seconds, and for a thousandth of
+    /// Counts the cells if there may be others, at most every ten seconds and in a thousandth of
     /// the time.
     fn count_cells(&mut self, clock: &impl Clock, keeper: &Keeper<PackedArchive>, offset: u64) {
         if !self.is_count_due(clock, offset) {
@@ -166,7 +166,7 @@ impl Numbers {
         })
     }
 
-    /// Puts the numbers up, at most once a second.
+    /// Posts the numbers, at most once a second.
     pub(crate) fn post<R: Wait + Clock>(
         &mut self,
         rt: &R,

@@ -9,7 +9,7 @@ use rr_process::Ending;
 use rr_schema::{Origin, Schema};
 use std::rt::Files;
 
-/// The origin that a file of the journal recorded last, whatever its schema is.
+/// The origin that a journal file recorded last, whatever its schema.
 fn origin_in<R: AllocGlobal + Files>(
     rt: &R,
     directory: &DataDirectory<'_, R>,
@@ -22,7 +22,7 @@ fn origin_in<R: AllocGlobal + Files>(
     }
 }
 
-/// The greater of two origins, or the one that there is.
+/// The greater of two origins, or the only one.
 fn greater(one: Option<Origin>, other: Option<Origin>) -> Option<Origin> {
     match (one, other) {
         (Some(one), Some(other)) => Some(one.max(other)),
@@ -31,10 +31,9 @@ fn greater(one: Option<Origin>, other: Option<Origin>) -> Option<Origin> {
     }
 }
 
-/// The greatest origin that files recorded which a start doesn't read.
+/// The greatest origin recorded in files that a start doesn't read.
 ///
-/// They alone have it where a crash came between the first checkpoint of another schema and its
-/// journal.
+/// Only they have it after a crash between the first checkpoint of another schema and its journal.
 fn origin_in_needless<R: AllocGlobal + Files>(
     rt: &R,
     directory: &DataDirectory<'_, R>,
@@ -62,8 +61,8 @@ fn last_recorded<R: AllocGlobal + Files>(
     }
 }
 
-/// The origin of this start: the next of the range that no start of this directory had. The files that
-/// are read are of this schema.
+/// The origin of this start: the next in the range that no start of this directory had. The files
+/// that are read are of this schema.
 pub(crate) fn next_origin<R: AllocGlobal + Files + Eprint>(
     rt: &R,
     path: &str,

@@ -1,4 +1,4 @@
-//! Who follows a peer.
+//! Follows a peer.
 
 use crate::node::link::{PeerLink, Standing};
 use crate::node::mailbox::{Delivery, Mailbox};
@@ -14,16 +14,16 @@ use std::net::{Net, TcpStream, ToSocketAddrs};
 use std::sync::Wait;
 use std::time::{Clock, Duration};
 
-/// For how many seconds a peer may send or take no byte, or not answer a call.
+/// How many seconds a peer may send or take no byte, or leave a call unanswered.
 const TIMEOUT: u64 = 10;
 
-/// After a failure a peer is called again a second later, and after further ones 2, 4 and so on, up to
-/// this many.
+/// The longest pause in seconds before a failed peer is called again: 1, then 2, 4 and so on, up to
+/// this.
 const LONGEST_PAUSE: u64 = 64;
 
-/// Connects to peers from threads of their own. [`Net`] has types of its own, which can't be shown to
-/// be safe on another thread than the first; so what the others do with the network is in here, where
-/// there are none.
+/// Connects to peers on threads of their own. [`Net`] has associated types, which can't be shown to
+/// be safe on any thread but the first; so what the others do with the network is in this trait,
+/// which has none.
 pub trait PeerCalling {
     /// Connects to the first of a name's addresses that answers in time.
     fn call_peer(&self, address: &str, limit: Duration) -> Option<TcpStream>;
@@ -40,8 +40,8 @@ impl PeerCalling for HostRuntime {
     }
 }
 
-/// Who follows a peer, on a thread of its own: asks it again and again for what its journal has more,
-/// and hands what comes to who keeps.
+/// Follows a peer on a thread of its own: keeps asking it for what its journal has gained, and
+/// hands what comes to the keeper.
 #[derive(Drop)]
 pub(crate) struct Peer {
     alloc: Global,
@@ -49,14 +49,14 @@ pub(crate) struct Peer {
     following: Following,
     link: PeerLink,
     shared: Shared,
-    /// What was told last of why the peer isn't followed.
+    /// The reason last reported for not following the peer.
     told: Option<PeerFault>,
-    /// How many seconds the next pause after a failure takes.
+    /// The seconds of the next pause after a failure.
     pause: u64,
 }
 
 impl Peer {
-    /// Follows a peer of this schema, from where its journal was read up to if that is one of these.
+    /// Follows a peer of this schema, from where its journal was read up to if that is in `known`.
     pub(crate) fn new(
         alloc: Global,
         schema: Schema,
@@ -75,13 +75,13 @@ impl Peer {
         }
     }
 
-    /// Whether the node ends.
+    /// Whether the node is ending.
     fn is_halted(&self) -> bool {
         let queues: &Queues = &self.shared.queues;
         queues.is_halted()
     }
 
-    /// A connection to the peer, which is to be greeted over it.
+    /// A connection to the peer, over which it is to be greeted.
     fn connect<R: PeerCalling>(&mut self, rt: &R) -> Result<PeerConnection<Half, Half>, PeerFault> {
         let limit = Duration::from_secs(TIMEOUT);
         let Some(stream) = rt.call_peer(self.link.address.as_str(), limit) else {
@@ -95,15 +95,15 @@ impl Peer {
         Ok(PeerConnection::new(self.alloc, input, output))
     }
 
-    /// Hands on what came, and waits until who keeps is done with it. Nothing is handed on where no
-    /// cells came, unless a checkpoint ends.
+    /// Hands on what came, and waits until the keeper is done with it.
     fn hand_on<R: Wait + Clock>(&self, rt: &R, cells: Vec<Cell>, read: Option<Cursor>) {
         let queues: &Queues = &self.shared.queues;
         let mailbox: &Mailbox = &self.link.mailbox;
         let _done = mailbox.deliver(rt, Delivery { cells, read }, queues);
     }
 
-    /// Takes an answer, and says whether there is more.
+    /// Takes an answer, and returns whether there is more. If it has no cells, it is handed on only
+    /// where it ends a checkpoint.
     fn take<R: Wait + Clock>(&mut self, rt: &R, answer: &PeerAnswer) -> Result<bool, PeerFault> {
         let was_in_checkpoint = self.following.is_in_checkpoint();
         let mut cells = Vec::new(self.alloc);
@@ -149,7 +149,7 @@ impl Peer {
         mailbox.rest(rt);
     }
 
-    /// Tells why the peer isn't followed, unless that was told last, and pauses.
+    /// Reports why the peer isn't followed, unless that was reported last, and pauses.
     fn note<R: Eprint + Wait + Clock>(&mut self, rt: &R, fault: PeerFault) {
         let standing: &Standing = &self.link.standing;
         standing.is_down();

@@ -7,8 +7,8 @@ use std::sync::Wait;
 use std::thread::Threads;
 use std::time::Clock;
 
-/// What the threads of a node ask of the system. [`Files`](std::rt::Files) and [`Net`](std::net::Net) aren't
-/// among it: see [`Checkpointing`].
+/// What the threads of a node ask of the system. [`Files`](std::rt::Files) and
+/// [`Net`](std::net::Net) aren't part of it: see [`Checkpointing`].
 pub trait ThreadRuntime: Checkpointing
     + JournalParts
     + PeerCalling

@@ -30,7 +30,7 @@ use std::random::RandomSource;
 use std::rt::Files;
 use std::thread::join_mut;
 
-/// Says with what a node starts, unless it is to be quiet.
+/// Prints what a node starts with, unless it is to be quiet.
 fn greet(rt: &(impl AllocGlobal + Eprint), config: &NodeConfig, replica: &Replica<PackedArchive>) {
     if config.quiet {
         return;
@@ -63,7 +63,7 @@ fn serve_all<C: Clock, R: Files + ThreadRuntime>(
     ending
 }
 
-/// Serves with a keeper a node that has started, until a thread ends.
+/// Serves a started node with a keeper, until a thread ends.
 fn serve_keeper<R: AllocGlobal + Files + ThreadRuntime>(
     rt: &R,
     config: &NodeConfig,
@@ -109,7 +109,7 @@ fn serve_keeper<R: AllocGlobal + Files + ThreadRuntime>(
     Ok(serve_all(rt, path, keeper, clock, keeping, workers, &shared))
 }
 
-/// Opens a desk over the replica of a node that has started, and serves until a thread ends.
+/// Opens a desk over the replica of a started node, and serves until a thread ends.
 fn serve_started<R: AllocGlobal + Files + ThreadRuntime>(
     rt: &R,
     config: &NodeConfig,
@@ -133,9 +133,9 @@ fn serve_started<R: AllocGlobal + Files + ThreadRuntime>(
     ending
 }
 
-/// Serves as a node from a directory, which begins with a snapshot where one is named. Configuration,
-/// directory, recovery, the origin's record and listeners come in this order, and the first fault
-/// ends it.
+/// Serves as a node from a directory, which begins with a snapshot if one is named. Configuration,
+/// directory, recovery, the origin's record and listeners come in this order; the first fault ends
+/// it.
 pub(crate) fn serve_node_of<R>(
     rt: &R,
     config: &str,

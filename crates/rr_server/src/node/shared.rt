@@ -8,12 +8,12 @@ use std::sync::atomic::{AtomicU64, Ordering};
 use std::sync::{Arc, Condvar, Mutex, Wait};
 use std::time::{Clock, Duration};
 
-/// How far the checkpoint is that was asked for last.
+/// The stage of the checkpoint that was last asked for.
 #[derive(Drop)]
 enum Stage {
     /// None is asked for.
     Idle,
-    /// One is asked for, after which the journal is read from this place on.
+    /// One is asked for; after it, the journal is read from this place on.
     Asked(Cursor),
     /// It is being written.
     Begun,
@@ -21,7 +21,7 @@ enum Stage {
     Ended(Option<u64>),
 }
 
-/// Through which a keeper asks for checkpoints, one at a time.
+/// Where a keeper asks for checkpoints, one at a time.
 #[derive(Drop)]
 pub(crate) struct Desired {
     stage: Mutex<Stage>,
@@ -43,7 +43,7 @@ impl Desired {
         self.changed.notify_one();
     }
 
-    /// Waits for at most so long for one that is asked for, and begins it.
+    /// Waits at most this long until one is asked for, and begins it.
     pub(crate) fn begin<R: Wait + Clock>(&self, rt: &R, timeout: Duration) -> Option<Cursor> {
         let (mut stage, _timed_out) = self
             .changed
@@ -59,12 +59,12 @@ impl Desired {
         }
     }
 
-    /// Says how the one that was begun has ended: its size in bytes, or nothing if it failed.
+    /// Notes how the one begun has ended: its size in bytes, or nothing if it failed.
     pub(crate) fn end<R: Wait>(&self, rt: &R, bytes: Option<u64>) {
         *self.stage.lock(rt) = Stage::Ended(bytes);
     }
 
-    /// How the last one has ended, once.
+    /// How the last one ended, given once.
     pub(crate) fn ended<R: Wait>(&self, rt: &R) -> Option<Option<u64>> {
         let mut stage = self.stage.lock(rt);
         match std::mem::replace(&mut *stage, Stage::Idle) {
@@ -77,7 +77,7 @@ impl Desired {
     }
 }
 
-/// How many requests were answered, by the hundreds of their statuses.
+/// How many requests were answered, by the class of their status.
 #[derive(Drop)]
 pub(crate) struct Answered {
     pub(crate) done: AtomicU64,
@@ -108,24 +108,24 @@ impl Answered {
 #[derive(Drop)]
 pub(crate) struct Shared {
     pub(crate) queues: Arc<Queues>,
-    /// The numbers of the node, as its keeper puts them up.
+    /// The numbers of the node, as its keeper posts them.
     pub(crate) metrics: SharedText,
     /// Whether nothing can be acknowledged now.
     pub(crate) is_failing: Flag,
     pub(crate) answered: Arc<Answered>,
     pub(crate) checkpoints: Arc<Desired>,
-    /// How many series there are, as they were counted last.
+    /// How many series there were at the last count.
     pub(crate) series: Arc<AtomicU64>,
     /// The offset up to which the journal is synced.
     pub(crate) journal_end: Arc<AtomicU64>,
     /// Whether a peer with another schema has asked for the journal.
     pub(crate) is_differing: Flag,
-    /// Raised where the node ends.
+    /// Raised when the node ends.
     pub(crate) halt: HaltFlag,
 }
 
 impl Shared {
-    /// What the threads of a node share whose reactor has these queues.
+    /// What the threads share of a node whose reactor has these queues.
     pub(crate) fn new(
         alloc: Global,
         queues: Arc<Queues>,
@@ -149,7 +149,7 @@ impl Shared {
         })
     }
 
-    /// Notes up to where the journal is synced, of which no more is given to peers.
+    /// Notes how far the journal is synced; peers are given nothing beyond that.
     pub(crate) fn is_synced_to(&self, offset: u64) {
         let end: &AtomicU64 = &self.journal_end;
         end.store(offset, Ordering::SeqCst);

@@ -41,12 +41,12 @@ pub(crate) struct Beginning<F> {
     pub(crate) cursors: Vec<Cursor>,
 }
 
-/// What a directory has.
+/// The contents of a directory.
 #[derive(Drop)]
 struct Contents {
     files: Start,
     replica: Replica<PackedArchive>,
-    /// What its files have besides.
+    /// What else its files have.
     recovered: Recovered,
     /// Whether the replica has cells that the files lack.
     is_loaded: bool,
@@ -71,7 +71,7 @@ where
     }
 }
 
-/// The names of the files of a directory, by what a start has to do with them.
+/// The names of a directory's files, by what a start does with them.
 fn files_of<R: AllocGlobal + Files + Eprint>(
     rt: &R,
     path: &str,
@@ -87,7 +87,7 @@ fn files_of<R: AllocGlobal + Files + Eprint>(
     }
 }
 
-/// The replica that files of a schema make, and what was found in them besides.
+/// The replica that files of a schema make, and what else was found in them.
 fn recovered<R: AllocGlobal + Files + Eprint>(
     rt: &R,
     path: &str,
@@ -110,7 +110,7 @@ fn recovered<R: AllocGlobal + Files + Eprint>(
     }
 }
 
-/// A new journal, from an offset on.
+/// The start of a new journal, at an offset.
 fn new_cursor<R: RandomSource>(rt: &R, offset: u64) -> io::Result<Cursor> {
     let mut id = [0u8; ID_LEN];
     rt.fill_bytes(&mut id)?;
@@ -120,7 +120,8 @@ fn new_cursor<R: RandomSource>(rt: &R, offset: u64) -> io::Result<Cursor> {
     })
 }
 
-/// The journal's last file, to go on behind what was read of it, or a first one; and its end.
+/// The journal's last file, to go on after what was read of it, or a first one; and the journal's
+/// end.
 fn open_journal<R: AllocGlobal + Files + RandomSource>(
     rt: &R,
     directory: &DataDirectory<'_, R>,
@@ -142,8 +143,8 @@ fn open_journal<R: AllocGlobal + Files + RandomSource>(
     Ok((journal, cursor))
 }
 
-/// From which offset on no checkpoint is written, and how many bytes the newest one has: that which a
-/// start reads first, if there is one.
+/// The offset from which on no checkpoint is written, and the size in bytes of the newest one: the
+/// one that a start reads first, if any.
 fn newest_checkpoint<R: Files>(
     alloc: Global,
     directory: &DataDirectory<'_, R>,
@@ -158,7 +159,7 @@ fn newest_checkpoint<R: Files>(
     }
 }
 
-/// Tells of a torn tail, which a crash left and which is cut off.
+/// Reports a torn tail, which a crash left and which is cut off.
 fn tell_torn(rt: &impl Eprint, path: &str, torn: u64) {
     if torn > 0 {
         // If this can't be printed, the node starts all the same.
@@ -166,8 +167,8 @@ fn tell_torn(rt: &impl Eprint, path: &str, torn: u64) {
     }
 }
 
-/// What a directory has whose files lack an archive, under the schema of the configuration. Its journal
-/// begins anew behind where it ended.
+/// The contents of a directory whose files lack an archive, under the configuration's schema. Its
+/// journal begins anew after its old end.
 fn with_archive<R: AllocGlobal + Files + Eprint + RandomSource + Wait>(
     rt: &R,
     config: &NodeConfig,
@@ -223,7 +224,7 @@ fn loaded<R: AllocGlobal + Files + Eprint>(
     })
 }
 
-/// What the files of a directory make for a new origin.
+/// The contents that a directory's files make for a new origin.
 fn contents_of<R: AllocGlobal + Files + Eprint + RandomSource + Wait>(
     rt: &R,
     config: &NodeConfig,
@@ -250,7 +251,7 @@ fn contents_of<R: AllocGlobal + Files + Eprint + RandomSource + Wait>(
     }
 }
 
-/// The journal, in which the origin of this start is recorded, and what the files lack.
+/// The journal, with the origin of this start recorded in it, and with what the files lack.
 fn begun<R: AllocGlobal + Files + Eprint + RandomSource>(
     rt: &R,
     config: &NodeConfig,
@@ -282,9 +283,9 @@ fn begun<R: AllocGlobal + Files + Eprint + RandomSource>(
     })
 }
 
-/// Opens a directory, recovers what its files have, takes a new origin and records it. With `load` the
-/// directory has to be new, and begins with the snapshot in that file. Where the configuration has one
-/// archive more than the files, that is added.
+/// Opens a directory, recovers what its files have, takes a new origin and records it. With `load`
+/// the directory must be new, and begins with the snapshot in that file. If the configuration has
+/// one archive more than the files, it is added.
 pub(crate) fn start<R>(
     rt: &R,
     config: &NodeConfig,
@@ -303,7 +304,7 @@ where
     };
     let logbook = begun(rt, config, path, &directory, &contents)?;
     for name in &contents.files.needless {
-        // What stays is as needless at the next start.
+        // What stays is still needless at the next start.
         let _removed = directory.remove(rt.alloc(), *name);
     }
     let Contents {

@@ -1,4 +1,4 @@
-//! The threads of a node, made ready.
+//! Makes the threads of a node ready.
 
 use crate::node::checkpoints::Checkpoints;
 use crate::node::giving::Giver;
@@ -16,7 +16,7 @@ use rr_schema::Schema;
 use std::alloc::{AllocError, Global};
 use std::time::Clock;
 
-/// What those who read are made of.
+/// What the workers are made from.
 #[derive(Drop)]
 pub(crate) struct Served<'a> {
     pub(crate) alloc: Global,
@@ -29,7 +29,7 @@ pub(crate) struct Served<'a> {
 }
 
 impl Served<'_> {
-    /// Who writes checkpoints.
+    /// The worker that writes checkpoints.
     fn checkpoints(&self, reader: Reader<PackedArchive>) -> Result<Worker, AllocError> {
         Ok(Worker::Checkpoints(Checkpoints {
             alloc: self.alloc,
@@ -40,7 +40,7 @@ impl Served<'_> {
         }))
     }
 
-    /// Who answers requests that read.
+    /// A worker that answers read requests.
     fn handler(&self, reader: Reader<PackedArchive>) -> Result<Worker, AllocError> {
         Ok(Worker::Handler(Handler {
             alloc: self.alloc,
@@ -50,7 +50,7 @@ impl Served<'_> {
         }))
     }
 
-    /// Who follows the peer of a link, whose journal may have been read before.
+    /// A worker that follows the peer of a link, whose journal may have been read before.
     fn peer(&self, link: &PeerLink, known: &[Cursor]) -> Result<Worker, AllocError> {
         let (alloc, shared) = (self.alloc, self.shared.share()?);
         let schema = self.schema.copy(alloc)?;
@@ -59,8 +59,8 @@ impl Served<'_> {
         Ok(Worker::Peer(Peer::new(alloc, schema, known, link, shared)))
     }
 
-    /// A thread for the sockets, one for checkpoints, which has the first reader, one for each other
-    /// reader, and one for each peer.
+    /// One worker for the sockets, one for checkpoints, which has the first reader, one for each
+    /// other reader, and one for each peer.
     pub(crate) fn workers(
         &self,
         reactor: Reactor,

@@ -18,7 +18,7 @@ use std::io::ErrorKind;
 use std::rt::Files;
 use std::sync::Wait;
 
-/// A schema in a line: the step, and of each archive the steps, the rows and xff.
+/// A schema on one line: the step, and each archive's steps, rows and xff.
 fn schema_text(alloc: Global, schema: &Schema) -> Result<String, AllocError> {
     let mut text = format!(in alloc; "step {}, archives", schema.step())?;
     for archive in schema.archives() {
@@ -28,7 +28,7 @@ fn schema_text(alloc: Global, schema: &Schema) -> Result<String, AllocError> {
     Ok(text)
 }
 
-/// Tells that a directory is of another schema than the configuration, with both.
+/// Reports that a directory's schema differs from the configuration's, with both.
 fn tell_schemas(
     rt: &(impl AllocGlobal + Eprint),
     path: &str,
@@ -42,8 +42,8 @@ fn tell_schemas(
     Ok(())
 }
 
-/// The schema that the files of a directory have, if the configuration's is that with one archive more;
-/// any other is told, and the file refused when it is read.
+/// The schema of a directory's files, if the configuration's is that one with one archive more; any
+/// other is reported, and the file refused when it is read.
 pub(crate) fn older_schema<R: AllocGlobal + Files + Eprint>(
     rt: &R,
     path: &str,
@@ -108,9 +108,9 @@ fn checkpointed<R: AllocGlobal + Files + Wait>(
     Ok(replica)
 }
 
-/// Brings what an older replica holds under a schema that has one archive more, and writes it as the
-/// checkpoint with which another journal begins. Once it has its name, a start reads it in the place of
-/// the files before it; after a crash before that, it begins anew.
+/// Brings what an older replica holds under a schema that has one archive more, and writes it as
+/// the checkpoint that another journal begins with. Once the checkpoint has its name, a start reads
+/// it in place of the files before it; after a crash before that, a start begins anew.
 pub(crate) fn upgraded<R: AllocGlobal + Files + Eprint + Wait>(
     rt: &R,
     path: &str,

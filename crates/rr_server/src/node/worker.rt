@@ -1,4 +1,4 @@
-//! What the threads of a node do, beside the one that keeps.
+//! What the threads of a node do, other than the keeper's.
 
 ghost use Rattle.std.specs.Thread.{IsSync};
 
@@ -19,7 +19,7 @@ use std::time::Clock;
 pub(crate) enum Worker {
     /// Owns all sockets.
     Reactor(Reactor),
-    /// Answers requests that read.
+    /// Answers read requests.
     Handler(Handler),
     /// Writes checkpoints.
     Checkpoints(Checkpoints),
@@ -46,7 +46,7 @@ impl Worker {
     }
 }
 
-/// Has each worker work on a thread of its own. Once one ends, all do.
+/// Runs each worker on a thread of its own. Once one ends, all do.
 fn work_all<R: ThreadRuntime>(rt: &R, workers: &mut [Worker], shared: &Shared) {
     if workers.is_empty() {
         return;
@@ -65,16 +65,16 @@ fn work_all<R: ThreadRuntime>(rt: &R, workers: &mut [Worker], shared: &Shared) {
     );
 }
 
-/// The threads of a node, beside the one that keeps.
+/// The threads of a node, other than the keeper's.
 #[derive(Drop)]
 pub(crate) struct Workers {
     pub(crate) workers: Vec<Worker>,
-    /// Ended where one of them ends.
+    /// Ended when one of them ends.
     pub(crate) shared: Shared,
 }
 
 impl Workers {
-    /// Has each work on a thread of its own, until one ends or they are halted.
+    /// Runs each worker on a thread of its own, until one ends or they are halted.
     pub(crate) fn work<R: ThreadRuntime>(&mut self, rt: &R) {
         work_all(rt, self.workers.as_mut_slice(), &self.shared);
     }

@@ -10,19 +10,19 @@ use std::io;
 use std::io::BufWriter;
 use std::rt::Files;
 
-/// Saves snapshots to a file, where one is named, and prints on standard error what failed: `peer
-/// I: NAME` of a peer, counted from 1; `peer I: own origin` once of a peer that has cells of the
-/// node's own origin which it never wrote; and `save: NAME` after a line with the file and the
-/// reason.
+/// Saves snapshots to a file, if one is named, and prints failures on standard error:
+/// `peer I: NAME` for a peer, counted from 1; `peer I: own origin` once for a peer that has cells
+/// of the node's own origin that the node never wrote; and `save: NAME` after a line with the file
+/// and the reason.
 ///
 /// A snapshot is written to a file beside, whose name ends in `.new`, and then renamed, so that the
-/// file has the last snapshot or the new one, whatever ends the process. File and folder are
-/// synced, so that this holds after a loss of power too, if the disk keeps what it says it has.
+/// file has the last snapshot or the new one, however the process ends. File and folder are synced,
+/// so that this holds after a power loss too, if the disk keeps what it says it has.
 #[derive(Drop)]
 pub struct FileShelf<'a, R> {
     rt: &'a R,
     file: Option<Replaced<'a, R>>,
-    /// The numbers of the peers of which `own origin` was printed.
+    /// The numbers of the peers for which `own origin` was printed.
     met: Vec<usize>,
 }
 
@@ -44,7 +44,7 @@ impl<'a, R: Files + Eprint> FileShelf<'a, R> {
         })
     }
 
-    /// Puts a snapshot that is written whole in the place of the last one, for good.
+    /// Durably replaces the last snapshot with one that is written whole.
     fn keep(&self, file: &Replaced<'a, R>, written: BufWriter<R::File>) -> io::Result<()> {
         file.replace(written)?;
         file.sync_folder()

@@ -10,10 +10,10 @@ use std::rt::Files;
 use std::time::{Clock, Instant};
 
 /// A shelf that wants a snapshot at most once an interval, or when a flag was raised, and then
-/// hands it to another shelf. After each interval its log says what the rounds did. In each round
-/// it prints `session: SchemaDiffers` on standard error, if another flag was raised. Cells are
-/// counted where a log says how many there are; other rounds don't wait for that. Nothing is known
-/// of its calls.
+/// hands it to another shelf. After each interval its log says what the rounds did. Each round
+/// prints `session: SchemaDiffers` on standard error if another flag was raised. Cells are counted
+/// when the log says how many there are; other rounds don't wait for that. Nothing is known of its
+/// calls.
 #[derive(Drop)]
 pub struct PacedShelf<'a, R, S> {
     rt: &'a R,
@@ -25,9 +25,9 @@ pub struct PacedShelf<'a, R, S> {
 }
 
 impl<'a, R: Files + Eprint + Clock, S> PacedShelf<'a, R, S> {
-    /// Hands a snapshot to a shelf once an interval of `every` seconds, or in each round without
-    /// one. `save_requested` asks for a snapshot before its time; `schema_differs` says that a peer
-    /// of another schema pulled.
+    /// Hands a snapshot to a shelf once every `every` seconds, or in each round if that is absent.
+    /// `save_requested` asks for an early snapshot; `schema_differs` says that a peer of another
+    /// schema pulled.
     pub fn new(
         rt: &'a R,
         shelf: S,
@@ -48,7 +48,7 @@ impl<'a, R: Files + Eprint + Clock, S> PacedShelf<'a, R, S> {
 
     /// Whether a snapshot is wanted now.
     fn is_wanted(&self) -> bool {
-        // The flag is taken down by a snapshot that is due anyway.
+        // A snapshot that is due anyway takes the flag down too.
         let is_asked = self.save_requested.take();
         is_asked || self.pace.is_due(self.now())
     }
@@ -58,7 +58,7 @@ impl<'a, R: Files + Eprint + Clock, S> PacedShelf<'a, R, S> {
         self.log.says() && (self.save_requested.is_raised() || self.pace.is_due(self.now()))
     }
 
-    /// What the clock that never goes back says, if it can be read.
+    /// The time of the monotonic clock, if it can be read.
     fn now(&self) -> Option<Instant> {
         Instant::now(self.rt).ok()
     }

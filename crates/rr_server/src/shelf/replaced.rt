@@ -7,12 +7,11 @@ use std::io::{BufWriter, ErrorKind};
 use std::rt::Files;
 use std::{fs, io};
 
-/// What the name of the file beside ends in, to which content is written before it takes the place
-/// of the last one.
+/// The suffix of the file beside, to which content is written before it replaces the last one.
 const BESIDE: &str = ".new";
 
-/// A file whose content is written to a file beside, whose name ends in `.new`, and which is then
-/// renamed. So the file has the last content or the new one, whatever ends the process.
+/// A file whose content is written to a file beside, whose name ends in `.new` and which is then
+/// renamed. So the file has the last content or the new one, however the process ends.
 #[derive(Drop)]
 pub(crate) struct Replaced<'a, R> {
     rt: &'a R,
@@ -48,7 +47,7 @@ impl<'a, R: Files + Eprint> Replaced<'a, R> {
         Ok(SaveFile::new(BufWriter::new(self.alloc, file)?))
     }
 
-    /// Ends the file beside, and puts it in the place of the last one.
+    /// Finishes the file beside, and replaces the last one with it.
     pub(crate) fn replace(&self, output: BufWriter<R::File>) -> io::Result<()> {
         let file = output.into_inner()?;
         file.sync_all()?;
@@ -56,8 +55,8 @@ impl<'a, R: Files + Eprint> Replaced<'a, R> {
         fs::rename(self.rt, self.beside.as_str(), self.path.as_str())
     }
 
-    /// Puts the name of the file to the disk, so that it has the new content after a loss of power
-    /// too. A file system that does this for no folder is passed over.
+    /// Syncs the file's name to disk, so that it has the new content after a power loss too. A file
+    /// system that does this for no folder is tolerated.
     pub(crate) fn sync_folder(&self) -> io::Result<()> {
         let folder = fs::open(self.rt, self.folder.as_str())?;
         match folder.sync_all() {
@@ -66,7 +65,7 @@ impl<'a, R: Files + Eprint> Replaced<'a, R> {
         }
     }
 
-    /// Removes the file beside: it isn't whole, or couldn't take the place of the last one.
+    /// Removes the file beside, which isn't whole or couldn't replace the last one.
     pub(crate) fn remove_beside(&self) {
         // If it can't be removed, the next one begins it anew.
         let _removed = fs::remove_file(self.rt, self.beside.as_str());
@@ -75,7 +74,7 @@ impl<'a, R: Files + Eprint> Replaced<'a, R> {
     /// Prints why the file beside isn't written.
     pub(crate) fn print_reason(&self, error: &io::Error) {
         let beside = self.beside.as_str();
-        // Where this can't be printed, there is no one to tell.
+        // If this can't be printed, there is no one to tell.
         let _printed = eprintln!(self.rt; "rr: {beside}: {error}");
     }
 }

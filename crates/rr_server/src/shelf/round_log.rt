@@ -19,8 +19,8 @@ impl fmt::Display for Seconds {
     }
 }
 
-/// Says what rounds did: a line on standard error, if there is to be one, and a file of counts, if
-/// one is named, which is written as a snapshot is. Nothing is known of what it says.
+/// Says what rounds did: in a line on standard error, if it prints, and in a file of counts, if one
+/// is named, which is written as a snapshot is. Nothing is known of what it says.
 #[derive(Drop)]
 pub struct RoundLog<'a, R> {
     rt: &'a R,
@@ -33,17 +33,17 @@ pub struct RoundLog<'a, R> {
     /// How many samples no archive kept, up to the last line and in all.
     past_before: u64,
     past: u64,
-    /// How many cells there were when they were counted last, after the pulls of a round.
+    /// How many cells there were at the last count, after the pulls of a round.
     cells: usize,
     /// When the pulls or the save of this round began.
     began: Option<Instant>,
-    /// How long the pulls took since the last line, and the save.
+    /// How long the pulls since the last line took, and the save.
     pulls: Duration,
     save: Duration,
 }
 
 impl<'a, R: Files + Eprint + Clock> RoundLog<'a, R> {
-    /// Says what rounds do that begin now.
+    /// Says what rounds do from now on.
     pub fn new(
         rt: &'a R,
         alloc: Global,
@@ -80,7 +80,7 @@ impl<'a, R: Files + Eprint + Clock> RoundLog<'a, R> {
         self.began = Instant::now(self.rt).ok();
     }
 
-    /// So many samples were put since the start that no archive kept.
+    /// This many samples put since the start were kept by no archive.
     pub(crate) fn are_past_horizon(&mut self, samples: u64) {
         self.past = samples;
     }
@@ -105,7 +105,7 @@ impl<'a, R: Files + Eprint + Clock> RoundLog<'a, R> {
         self.prints || self.file.is_some()
     }
 
-    /// How long it is since something began.
+    /// The time since the pulls or the save began.
     fn elapsed(&self) -> Duration {
         match self.began {
             Some(began) => began.elapsed(self.rt).unwrap_or(Duration::ZERO),

@@ -3,8 +3,8 @@
 use std::io;
 use std::io::{BufWriter, Write};
 
-/// A file that is written through a buffer, and keeps the first error of its calls, so that whoever
-/// let go of it can still be told why.
+/// A file that is written through a buffer and keeps the first error of its calls, so that the
+/// reason can still be told once it is given back.
 #[derive(Drop)]
 pub struct SaveFile<F: Write + Drop> {
     file: BufWriter<F>,
@@ -12,7 +12,7 @@ pub struct SaveFile<F: Write + Drop> {
 }
 
 impl<F: Write + Drop> SaveFile<F> {
-    /// A file none of whose calls failed.
+    /// A file with no failed call.
     pub(crate) fn new(file: BufWriter<F>) -> SaveFile<F> {
         SaveFile {
             file,
@@ -30,7 +30,7 @@ impl<F: Write + Drop> SaveFile<F> {
         self.failure
     }
 
-    /// Keeps an error if it is the first, and answers one of its kind.
+    /// Keeps an error if it is the first, and returns one of its kind.
     fn keep(&mut self, error: io::Error) -> io::Error {
         let kind = error.kind();
         if self.failure.is_none() {

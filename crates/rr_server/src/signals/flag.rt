@@ -4,12 +4,12 @@ use std::alloc::{AllocError, Global};
 use std::sync::Arc;
 use std::sync::atomic::{AtomicBool, Ordering};
 
-/// A flag that is raised on one thread, and taken down by whoever does then what it asks for.
+/// A flag that one thread raises, and that is taken down by whoever then does what it asks for.
 /// Nothing is known of its calls.
 ///
 /// A [`Listening`](crate::Listening) raises one for a connection that brings nothing, which asks
-/// for a snapshot before its time, and one for a peer of another schema, of which the operator is
-/// to be told.
+/// for an early snapshot, and one for a peer of another schema, which the operator is to be told
+/// of.
 #[derive(Drop)]
 pub struct Flag {
     is_raised: Arc<AtomicBool>,

@@ -1,13 +1,13 @@
-//! The flag that ends a node before its time.
+//! The flag that ends a node early.
 
 use rr_host::Halt;
 use std::alloc::{AllocError, Global};
 use std::sync::Arc;
 use std::sync::atomic::{AtomicBool, Ordering};
 
-/// A flag that is raised where a node ends before its time. What the node waits for over TCP looks
-/// at it at least once a second: [`Listening`](crate::Listening) then gives no connection any more,
-/// and a [`Half`](crate::tcp::Half) fails. Nothing is known of its calls.
+/// A flag that is raised when a node ends early. Every wait over TCP checks it at least once a
+/// second: [`Listening`](crate::Listening) then gives no more connections, and a
+/// [`Half`](crate::tcp::Half) fails. Nothing is known of its calls.
 #[derive(Drop)]
 pub struct HaltFlag {
     is_raised: Arc<AtomicBool>,

@@ -6,15 +6,15 @@ use std::alloc::{AllocError, Global};
 use std::sync::Arc;
 use std::sync::atomic::{AtomicUsize, Ordering};
 
-/// How long is waited between two looks at how many threads have begun, in nanoseconds: a
+/// How long to wait between two looks at how many threads have begun, in nanoseconds: a
 /// millisecond.
 const LOOK: i64 = 1_000_000;
 
-/// How often is looked: for half a second. On a machine that is busy a look takes longer, and so
-/// does the start of a thread.
+/// How many times to look: for half a second. On a busy machine a look takes longer, and so does
+/// the start of a thread.
 const LOOKS: u32 = 500;
 
-/// Sleeps for less than a second, in nanoseconds. A signal may end the sleep early.
+/// Sleeps for this many nanoseconds, less than a second. A signal may end the sleep early.
 pub(crate) fn pause(nanoseconds: i64) {
     let asked = timespec {
         tv_sec: 0,
@@ -28,7 +28,7 @@ pub(crate) fn pause(nanoseconds: i64) {
 /// have begun.
 ///
 /// If a thread can't be made, the toolchain has another thread do its work afterwards, which may be
-/// never. The barrier shows that before any work has begun.
+/// never. The barrier reveals that before any work has begun.
 #[derive(Drop)]
 pub struct StartBarrier {
     begun: Arc<AtomicUsize>,
@@ -44,7 +44,7 @@ impl StartBarrier {
         })
     }
 
-    /// The same barrier, for one thread more.
+    /// The same barrier, for one more thread.
     pub fn share(&self) -> Result<StartBarrier, AllocError> {
         Ok(StartBarrier {
             begun: Arc::try_clone(&self.begun)?,
@@ -52,7 +52,7 @@ impl StartBarrier {
         })
     }
 
-    /// Says that one more thread has begun, waits until all have, for half a second, and answers
+    /// Notes that one more thread has begun, waits up to half a second until all have, and returns
     /// whether they have.
     pub fn wait(&self) -> bool {
         self.begun.fetch_add(1, Ordering::SeqCst);

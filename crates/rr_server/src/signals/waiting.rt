@@ -4,13 +4,13 @@ use super::flag::Flag;
 use super::halt::HaltFlag;
 use super::start::StartBarrier;
 
-/// How visits are waited for: the first once all threads of the node have begun; each without end,
-/// or for one interval; and no longer than until the flag of the node is raised. Nothing is known
-/// of its calls.
+/// How visits are waited for: the first once all threads of the node have begun; each indefinitely,
+/// or for one interval; and no longer than until the node's flag is raised. Nothing is known of its
+/// calls.
 #[derive(Drop)]
 pub struct Waiting {
     halt: HaltFlag,
-    /// What is still to be waited at before the first visit.
+    /// The barrier still to wait at before the first visit.
     start: Option<StartBarrier>,
     interval: Option<Interval>,
 }
@@ -18,14 +18,14 @@ pub struct Waiting {
 /// The interval for which a visit is waited for.
 #[derive(Drop)]
 struct Interval {
-    /// Its seconds.
+    /// Its length in seconds.
     every: u64,
     /// Raised for a visit that brought nothing.
     save_requested: Flag,
 }
 
 impl Waiting {
-    /// Without end, but where the flag is raised.
+    /// Indefinitely, until the flag is raised.
     pub fn new(halt: HaltFlag) -> Waiting {
         Waiting {
             halt,
@@ -44,7 +44,7 @@ impl Waiting {
     }
 
     /// The same, but an interval of `every` seconds without a visit counts as a failed visit, and
-    /// so still starts a round. For each visit that brings no byte the flag is raised.
+    /// so still starts a round. The flag is raised for each visit that brings no byte.
     pub fn at_intervals(self, every: u64, save_requested: Flag) -> Waiting {
         Waiting {
             interval: Some(Interval {
@@ -60,7 +60,7 @@ impl Waiting {
         &self.halt
     }
 
-    /// Whether no visit will come any more.
+    /// Whether no more visits will come.
     pub fn is_over(&self) -> bool {
         self.halt.is_raised()
     }
@@ -77,7 +77,7 @@ impl Waiting {
         true
     }
 
-    /// For how many seconds a visit is waited for.
+    /// How many seconds a visit is waited for.
     pub fn seconds(&self) -> u64 {
         match &self.interval {
             Some(interval) => interval.every,

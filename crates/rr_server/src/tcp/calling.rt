@@ -10,8 +10,8 @@ use std::time::Duration;
 
 /// Reaches peers over TCP. Nothing is known of what they send.
 ///
-/// A peer can't be reached, either, where there is no memory for its connection, or where it
-/// doesn't answer the call within the idle time.
+/// A peer also counts as not reached if there is no memory for its connection, or if it doesn't
+/// answer the call within the idle time.
 #[derive(Drop)]
 pub struct Calling<'a, R> {
     rt: &'a R,
@@ -21,8 +21,8 @@ pub struct Calling<'a, R> {
 }
 
 impl<'a, R: Net<Stream = TcpStream>> Calling<'a, R> {
-    /// Reaches peers by the network of a runtime. Each connection may move no byte for `idle`
-    /// seconds, or without end where that is missing; it fails where the flag is raised.
+    /// Reaches peers over a runtime's network. Each connection may move no byte for `idle` seconds,
+    /// or indefinitely if that is absent; it fails once the flag is raised.
     pub fn new(rt: &'a R, alloc: Global, idle: Option<u64>, halt: HaltFlag) -> Calling<'a, R> {
         Calling {
             rt,

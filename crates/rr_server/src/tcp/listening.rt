@@ -10,25 +10,25 @@ use std::io::ErrorKind;
 use std::net::{TcpListener, TcpStream};
 use std::os::fd::OwnedFd;
 
-/// How long is waited after no connection could be taken, in nanoseconds: a tenth of a second. So
-/// what fails at once, again and again, takes no processor.
+/// How long to wait after no connection could be taken, in nanoseconds: a tenth of a second. So
+/// failing at once, again and again, takes no processor time.
 const PAUSE: i64 = 100_000_000;
 
-/// A listener that waits for a second at most: a limit that is set through a stream of its socket.
+/// A listener that waits at most a second, a limit set through a stream of its socket.
 fn with_limit(listener: TcpListener) -> io::Result<TcpListener> {
     let socket = TcpStream::from(OwnedFd::from(listener));
     socket.set_read_timeout(Some(one_second()))?;
     Ok(TcpListener::from(OwnedFd::from(socket)))
 }
 
-/// The connections that come to an address, for as long as they are waited for ([`Waiting`]); then
-/// none will come any more. Nothing is known of them.
+/// The connections that come to an address, for as long as they are waited for ([`Waiting`]); after
+/// that, none come. Nothing is known of them.
 ///
-/// One for which there is no memory fails. A read or write of one that moves no byte for the idle
-/// time fails too, so that no silent peer holds whoever serves it. Where none can be taken, as by a
-/// process that has no file descriptor left, one has failed, after a tenth of a second. What a peer
-/// of another schema still sends is read before its connection is closed, so that it learns of the
-/// end by a read.
+/// A connection fails if there is no memory for it. A read or write that moves no byte for the idle
+/// time fails too, so that no silent peer holds up whoever serves it. If none can be taken, as in a
+/// process out of file descriptors, that is a failed one, after a tenth of a second. What a peer of
+/// another schema still sends is read before its connection is closed, so that it learns of the end
+/// by a read.
 #[derive(Drop)]
 pub struct Listening {
     alloc: Global,
@@ -37,7 +37,7 @@ pub struct Listening {
     waiting: Waiting,
     /// Raised for a peer of another schema.
     schema_differs: Option<Flag>,
-    /// Whether the peer of the connection that was given last has another schema.
+    /// Whether the peer of the last connection given has another schema.
     differs: bool,
 }
 
@@ -48,13 +48,13 @@ pub enum Accepted {
     Stream(TcpStream),
     /// It failed.
     Failed,
-    /// None will come any more.
+    /// No more will come.
     Over,
 }
 
 impl Listening {
-    /// The connections that come to a listener, waited for as `waiting` says. Each may move no
-    /// byte for `idle` seconds, or without end if that is missing.
+    /// The connections that come to a listener, waited for as `waiting` says. Each may move no byte
+    /// for `idle` seconds, or indefinitely if that is absent.
     pub fn new(
         alloc: Global,
         listener: TcpListener,
@@ -71,8 +71,8 @@ impl Listening {
         })
     }
 
-    /// The same connections, with a flag that is raised for each peer that pulls on one and has
-    /// another schema.
+    /// The same connections, with a flag that is raised for each peer of another schema that pulls
+    /// on one.
     pub fn with_schema_flag(self, schema_differs: Flag) -> Listening {
         Listening {
             schema_differs: Some(schema_differs),
@@ -80,8 +80,8 @@ impl Listening {
         }
     }
 
-    /// Waits for the next connection, which isn't handed back. It is as [`Visits::next`] gives it,
-    /// but for its halves.
+    /// Waits for the next connection, which isn't handed back. It is what [`Visits::next`] gives,
+    /// without halves.
     pub fn accept(&mut self) -> Accepted {
         if self.waiting.is_over() || !self.waiting.has_started() {
             return Accepted::Over;
@@ -102,7 +102,7 @@ impl Listening {
         Accepted::Failed
     }
 
-    /// A connection that was taken.
+    /// The visit of an accepted connection.
     fn visit(&self, stream: TcpStream) -> Visit<Half, Half> {
         match halves(self.alloc, stream, self.idle, self.waiting.halt()) {
             Some((input, output)) => Visit::Stream(Counted::new(input), Counted::new(output)),

@@ -1,4 +1,4 @@
-//! Peers that are called by turns.
+//! Peers that are called at intervals.
 
 use rr_host::{Dial, Pace, is_without_fault};
 use rr_io::Counted;
@@ -12,9 +12,9 @@ struct PacedPeer<'a> {
     pace: Pace,
 }
 
-/// A dial that calls each peer at most once an interval, and passes over one that failed for some
-/// intervals: see [`Pace`]. A peer has failed if it can't be reached, if a call of its
-/// stream fails, or if it ends the stream before it is handed back. Nothing is known of the calls.
+/// A dial that calls each peer at most once an interval, and after a failure passes it over for
+/// some intervals: see [`Pace`]. A peer has failed if it can't be reached, if a call of its stream
+/// fails, or if it ends the stream before it is handed back. Nothing is known of the calls.
 #[derive(Drop)]
 pub struct PacedDial<'a, R, D> {
     rt: &'a R,
@@ -25,8 +25,8 @@ pub struct PacedDial<'a, R, D> {
 }
 
 impl<'a, R: Clock, D> PacedDial<'a, R, D> {
-    /// Calls these peers by a dial, once in so many seconds, or whenever it is asked to where that
-    /// is missing. Other addresses are always due.
+    /// Calls these peers by a dial, once every `every` seconds, or whenever asked if that is
+    /// absent. Other addresses are always due.
     pub fn new(
         rt: &'a R,
         alloc: Global,

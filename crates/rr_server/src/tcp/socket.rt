@@ -10,13 +10,13 @@ use std::net::{Shutdown, TcpStream};
 use std::sync::Arc;
 use std::time::Duration;
 
-/// How many bytes are read at a time that nobody wants, and how often: of 256 MiB, so that who
-/// sends without end isn't listened to without end.
+/// How many unwanted bytes are read at a time, and how often: 256 MiB in all, so that an endless
+/// sender isn't read forever.
 const SCRAP: usize = 4_096;
 
 const SCRAPS: u32 = 65_536;
 
-/// For how long a connection or a listener waits at a time. Then it looks at the flag of its node.
+/// How long a connection or a listener waits at a time, before it checks its node's flag.
 pub(crate) fn one_second() -> Duration {
     Duration::from_secs(1)
 }
@@ -25,12 +25,12 @@ pub(crate) fn one_second() -> Duration {
 #[derive(Drop)]
 struct Socket {
     stream: TcpStream,
-    /// For how many seconds it may move no byte.
+    /// How many seconds it may move no byte.
     idle: u64,
     halt: HaltFlag,
 }
 
-/// What a read or a write came to, unless it waited in vain.
+/// The result of a read or a write, unless it waited in vain.
 fn unless_in_vain(moved: io::Result<usize>) -> Option<io::Result<usize>>
     ensures { IfSome result (λ same. same ≡ moved) }
 {
@@ -41,7 +41,7 @@ fn unless_in_vain(moved: io::Result<usize>) -> Option<io::Result<usize>>
 }
 
 impl Socket {
-    /// One read, unless no byte comes within a second. It fails where the node is halted.
+    /// One read, unless no byte comes within a second. It fails if the node is halted.
     fn read(&self, buf: &mut [u8]) -> Option<io::Result<usize>>
         ensures { IfSome result (λ given. ReadsAtMost given buf.new) }
     {
@@ -52,7 +52,7 @@ impl Socket {
         unless_in_vain(stream.read(buf))
     }
 
-    /// One write, unless no byte is taken within a second. It fails where the node is halted.
+    /// One write, unless no byte is taken within a second. It fails if the node is halted.
     fn write(&self, buf: &[u8]) -> Option<io::Result<usize>>
         ensures { IfSome result (λ taken. WritesAtMost taken buf.now) }
     {
@@ -74,7 +74,7 @@ pub struct Half {
 }
 
 impl Half {
-    /// The half of a connection that gave nothing yet.
+    /// A half that has given nothing yet.
     fn new(socket: Arc<Socket>) -> Half {
         Half {
             socket,
@@ -82,14 +82,14 @@ impl Half {
         }
     }
 
-    /// Ends what is sent over the connection, and answers whether that could be.
+    /// Ends sending over the connection, and returns whether that succeeded.
     pub fn end(&mut self) -> bool {
         self.socket.stream.shutdown(Shutdown::Write).is_ok()
     }
 
-    /// Ends what is sent over the connection, and reads what is still received, to its end or for
-    /// 256 MiB. A connection that is closed before that cuts off a peer which still sends, whose
-    /// next call then fails, where it should learn of the end.
+    /// Ends sending over the connection, and reads what still arrives, to its end or for 256 MiB.
+    /// Closing the connection before that would cut off a peer that still sends, whose next call
+    /// would fail when it should learn of the end.
     pub(crate) fn drain(&mut self) {
         if !self.end() {
             return;
@@ -148,8 +148,8 @@ impl Write for Half {
 
 /// The two halves of a connection: its input and its output. It is closed once both are let go.
 ///
-/// It may move no byte for `idle` seconds, or without end where that is missing, and for no longer
-/// than until the flag of its node is raised.
+/// It may move no byte for `idle` seconds, or indefinitely if that is absent, and no longer than
+/// until its node's flag is raised.
 pub fn halves(
     alloc: Global,
     stream: TcpStream,
