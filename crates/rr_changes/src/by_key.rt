@@ -10,7 +10,7 @@ use rr_replica::Replica;
 use std::alloc::{AllocError, Global};
 use std::collections::BTreeMap;
 
-/// Adds the ranges of the series with a number at its key, if a replica has one for it.
+/// Adds the ranges of the series with this number under its key, if the replica has one for it.
 fn add_series<A: Cells>(
     by_key: &mut BTreeMap<SeriesKey, ChangeTimes>,
     replica: &Replica<A>,
@@ -27,8 +27,8 @@ fn add_series<A: Cells>(
     Ok(())
 }
 
-/// The ranges of these series, which are all that have changed, by the keys that a replica has for
-/// them. The cost is linear in these series, times their logarithm.
+/// The ranges of these series, which are all that have changed, by the keys that the replica has
+/// for them. The cost is n log n in the number of these series.
 pub(crate) fn times_by_key<A: Cells>(
     alloc: Global,
     replica: &Replica<A>,
@@ -45,7 +45,7 @@ pub(crate) fn times_by_key<A: Cells>(
     Ok(by_key)
 }
 
-/// A list of series by their keys, in the same order. The keys' bytes are shared.
+/// The series of a map by key as a list, in the same order. The keys' bytes are shared.
 pub(crate) fn list_by_key(
     alloc: Global,
     by_key: &BTreeMap<SeriesKey, ChangeTimes>,

@@ -12,10 +12,10 @@ use rr_replica::Replica;
 use std::alloc::{AllocError, Global};
 use std::marker::Model;
 
-/// Which series of a replica changed since they were last written, and in which times: of each
-/// changed one, by its number, the two [`ChangeTimes`].
+/// Which series of a replica changed since they were last written, and at which times: for each
+/// changed one, by its number, its [`ChangeTimes`].
 ///
-/// It takes 32 bytes a series, changed or not, and 8 a changed one.
+/// It takes 32 bytes per series, changed or not, and 8 per changed one.
 #[derive(Drop)]
 pub struct ChangeTracker {
     near: u64,
@@ -41,8 +41,8 @@ impl Model for ChangeTracker {
 impl ChangeTracker {
     ghost use Rattle.rr_changes.specs.Tracking.{AreChangedSeries, AreInOrder, HasRoom, times_of};
 
-    /// No series has changed yet. A time that is no more than so many nanoseconds from the recent
-    /// range of its series widens that. Takes no memory.
+    /// A tracker with no changed series yet. A time at most `near` nanoseconds from the recent
+    /// range of its series widens that range. Takes no memory.
     pub fn new(alloc: Global, near: u64) -> ChangeTracker
         ensures none { result.times ≡ [] }
         ensures near { result.near ≡ near }
@@ -61,8 +61,8 @@ impl ChangeTracker {
         self.changed.is_empty()
     }
 
-    /// Makes room to track a change of the series with a number. No range changes. Where it is
-    /// called before each `track`, the cost is constant in the mean.
+    /// Makes room to track a change of the series with this number. No range changes. Called before
+    /// each `track`, it has an amortized constant cost.
     #[inline(always)]
     pub fn ready(&mut self, series: usize) -> Result<(), AllocError>
         ensures same { (i : ℕ) → times_of self.new i ≡ times_of self.old i }
@@ -75,7 +75,7 @@ impl ChangeTracker {
         self.changed.reserve(1)
     }
 
-    /// Makes a place for the series with a number that has none.
+    /// Makes a place for the series with this number, which has none.
     fn make_places(&mut self, series: usize) -> Result<(), AllocError>
         requires { length self.old.times ≤ series }
         ensures same { (i : ℕ) → times_of self.new i ≡ times_of self.old i }
@@ -88,8 +88,8 @@ impl ChangeTracker {
         }
     }
 
-    /// Notes a change of the series with a number at a time, in nanoseconds since the Unix epoch.
-    /// There is room for it, which [`ChangeTracker::ready`] makes. The cost is constant.
+    /// Notes a change of the series with this number at a time, in nanoseconds since the Unix
+    /// epoch. [`ChangeTracker::ready`] must have made room for it. The cost is constant.
     #[inline(always)]
     pub fn track(&mut self, series: usize, time: i64)
         requires { HasRoom self.old series }
@@ -103,8 +103,8 @@ impl ChangeTracker {
         self.times[series] = times.with_time(self.near, time);
     }
 
-    /// The series that have changed, in the order of their keys; a replica has the keys by the
-    /// numbers. The cost is linear in these series, times their logarithm.
+    /// The series that have changed, in the order of their keys, which the replica has by number.
+    /// The cost is n log n in the number of these series.
     pub fn series<A: Cells>(
         &self,
         alloc: Global,

@@ -1,4 +1,4 @@
-//! Cells that a replica holds already.
+//! Cells that a replica already holds.
 ghost use Rattle.std.specs.Prelude.{◌≡◌, true, Some};
 ghost use Rattle.rr_archive.specs.CellSlots.{IsSlot};
 ghost use Rattle.rr_cells.specs.CellBounds.{is_cell_of};
@@ -14,7 +14,7 @@ use rr_schema::Origin;
 use rr_text::limits::MAX_ORIGIN;
 use std::cmp::Ordering;
 
-/// The slot and the number of the origin right before those of a cell.
+/// The slot and origin number right before those of a cell.
 fn before(cell: &Cell) -> (i64, u16)
     requires { IsSlot cell.now.slot }
     ensures { result ≡ before_of cell.now.slot cell.now.origin }
@@ -27,7 +27,7 @@ fn before(cell: &Cell) -> (i64, u16)
     }
 }
 
-/// Whether the name of a cell comes before that of another, is the same, or comes after it.
+/// Compares the name of a cell with that of another.
 fn cmp_names(cell: &Cell, other: &CellRef<'_>) -> Ordering
     ensures { result ≡ cell_name_cmp (owned_cell cell.now).0 (seen_cell other.now).0 }
 {
@@ -40,7 +40,7 @@ fn cmp_names(cell: &Cell, other: &CellRef<'_>) -> Ordering
         .then(cell.archive.cmp(&other.archive).then(cell_slot))
 }
 
-/// Whether a cell is of the name of another and contributes no less.
+/// Whether `found` has the name of `cell` and contributes no less.
 fn has_no_less(found: &CellRef<'_>, cell: &Cell) -> bool
     ensures { result ≡ is_at_least (at_name (owned_cell cell.now).0 (Some (seen_cell found.now)))
         cell.now.contribution }
@@ -48,14 +48,14 @@ fn has_no_less(found: &CellRef<'_>, cell: &Cell) -> bool
     cmp_names(cell, found).is_eq() && cell.contribution.cmp(&found.contribution).is_le()
 }
 
-/// Whether a replica holds a cell of its schema already, so that to join it changes nothing: one of
+/// Whether a replica already holds a cell of its schema, so that joining it changes nothing: one of
 /// its name is there that contributes no less. The cost is that of `Replica::next_cell`.
 pub fn is_held<A: Cells>(replica: &Replica<A>, cell: &Cell) -> bool
     requires { is_cell_of replica.now.schema (owned_cell cell.now) ≡ true }
     ensures { result ≡ is_held replica.now.cells (owned_cell cell.now) }
 {
-    // The proof needs what the replica and the origin keep to, which these ensure, and that the time
-    // is one of 64 bits.
+    // The proof needs the invariants of the replica and the origin, which these ensure, and that
+    // the time is one of 64 bits.
     let _schema = replica.schema();
     let _number = cell.origin.get();
     let _time = cell.contribution.last_time;

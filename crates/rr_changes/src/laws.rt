@@ -1,5 +1,5 @@
-//! The laws of updates, changes and checkpoints, with no work to do: the functions have empty
-//! bodies.
+//! The laws of updates, changes and checkpoints: functions with empty bodies, whose contracts state
+//! them.
 
 pub mod changes;
 pub mod checkpoints;

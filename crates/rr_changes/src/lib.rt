@@ -1,20 +1,20 @@
 //! What changed in a replica since it was last written.
 //!
-//! An update is a part of a map of cells that has all that was added to it since an earlier moment:
-//! joined to what was there before, it makes what is there now, and updates may be joined in any
+//! An update is a part of a map of cells that has all that was added to the map since an earlier
+//! moment: joined to what was there then, it makes what is there now. Updates may be joined in any
 //! order and any number of times (`specs/Updates.antt`), also to a checkpoint, which was read while
-//! the replica went on (`specs/Checkpoints.antt`). An operation changes cells of its key alone, in
-//! the slots of its time. So whoever tracks, of each series, the times of its changes, finds an
-//! update among its cells at the cost of the series that changed, and never of all.
+//! the replica went on (`specs/Checkpoints.antt`). An operation changes only cells of its key, in
+//! the slots of its time. So tracking the times at which each series changed is enough to find an
+//! update among its cells, at the cost of the series that changed, never of all.
 //!
 //! [`ChangeTracker`] tracks them: at most two [`TimeRange`]s a series (`specs/Tracking.antt`).
-//! Before an operation is applied it is made `ready` for its series, and after that `track` can't
-//! fail. A joined cell that [`is_held`] already changes nothing, and isn't tracked. To write what
-//! changed, its `series` are listed in the order of their keys, and [`next_changes`] gives the cells
-//! in the slots of their ranges, a number of them at a time, each call after the last cell of the
-//! one before, until fewer come (`specs/Changes.antt`). Once they are written, it is cleared; if they
-//! aren't, the next list has them again. For a checkpoint [`next_cells`] gives all cells in the same
-//! way. [`laws`] say what the cells of all calls come to.
+//! Before an operation is applied, the tracker is made `ready` for its series; after that, `track`
+//! can't fail. A joined cell that [`is_held`] already changes nothing, and isn't tracked. To write
+//! what changed, its `series` are listed in the order of their keys, and [`next_changes`] gives the
+//! cells in the slots of their ranges, up to a limit at a time, each call after the last cell of
+//! the one before, until fewer come (`specs/Changes.antt`). Once they are written, the tracker is
+//! cleared; if they aren't, the next list has them again. For a checkpoint, [`next_cells`] gives
+//! all cells in the same way. [`laws`] states what the cells of all calls come to.
 #![tactic(auto)]
 
 mod by_key;

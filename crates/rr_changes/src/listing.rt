@@ -1,4 +1,4 @@
-//! The cells within ranges, a number of them at a time.
+//! The cells within ranges, up to a limit at a time.
 ghost use Rattle.std.specs.Prelude.{◌≡◌, ◌<◌, ◌≤◌, IfOk, OnOk, drop, length, map, take, vec_len};
 ghost use Rattle.std.specs.FinMap.{entries};
 ghost use Rattle.std.specs.List.{filter};
@@ -17,7 +17,7 @@ use rr_cells::{Cell, CellRef};
 use rr_replica::{CellWalk, Replica};
 use std::alloc::{AllocError, Global};
 
-/// What a batch of changes is asked for.
+/// A request for a batch of changes.
 #[derive(Clone, Copy)]
 struct Query<'a, A: Cells> {
     alloc: Global,
@@ -26,7 +26,7 @@ struct Query<'a, A: Cells> {
     limit: usize,
 }
 
-/// The cell from which a walk goes on to all those in some slots.
+/// The cell from which a walk reaches all those in some slots.
 fn first_of<'a, A: Cells>(
     walk: &mut CellWalk<'a, A>,
     query: &Query<'a, A>,
@@ -43,8 +43,7 @@ fn first_of<'a, A: Cells>(
     walk.next_cell(slots.key, slots.archive, slots.first - 1, origin)
 }
 
-/// The cell from which a walk goes on to those in some slots that come after the cell that was
-/// asked for.
+/// The cell from which a walk reaches those in some slots that come after the query's cell.
 fn first_after<'a, A: Cells>(
     walk: &mut CellWalk<'a, A>,
     query: &Query<'a, A>,
@@ -165,7 +164,7 @@ fn list_all<A: Cells>(
     Ok(())
 }
 
-/// How many of these series, whose keys strictly ascend, are before that of a cell.
+/// How many of these series, whose keys strictly ascend, come before that of a cell.
 fn count_before(series: &[ChangedSeries], after: Option<&Cell>) -> usize
     requires { AreInOrder series.now }
     ensures bound { result ≤ length series.now }
@@ -179,11 +178,11 @@ fn count_before(series: &[ChangedSeries], after: Option<&Cell>) -> usize
 }
 
 /// The next changes of a replica: of its live cells of these series, in the slots of their ranges,
-/// those that come first after a cell in the order of names, or first of all; as many as `limit`,
-/// and fewer only where there are no more. The keys of the series strictly ascend.
+/// the first ones after a cell in the order of names, or the first of all; as many as `limit`, and
+/// fewer only if there are no more. The keys of the series strictly ascend.
 ///
-/// The cost is that of `CellWalk::next_cell` for each of these cells, of two look-ups of the key
-/// for each range of each archive of their series, and of finding the first of these series.
+/// The cost is that of `CellWalk::next_cell` for each of these cells, two lookups of the key for
+/// each range of each archive of their series, and finding the first of these series.
 pub fn next_changes<A: Cells>(
     alloc: Global,
     replica: &Replica<A>,
@@ -198,7 +197,7 @@ pub fn next_changes<A: Cells>(
         ≡ cells_after (name_in after.entry)
         (changes_among replica.now.schema series.now (entries replica.now.cells))) }
 {
-    // The proof needs what the replica keeps to, which `schema` ensures.
+    // The proof needs the replica's invariant, which `schema` ensures.
     let _schema = replica.schema();
     let query = Query {
         alloc,

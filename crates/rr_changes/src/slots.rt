@@ -11,7 +11,7 @@ use rr_key::SeriesKey;
 use rr_schema::Schema;
 use std::alloc::AllocError;
 
-/// The slots of an archive of a key, from a first to a last one.
+/// The slots of an archive of a key, from `first` to `last`.
 #[derive(Clone, Copy)]
 pub(crate) struct Slots<'a> {
     pub(crate) key: &'a SeriesKey,
@@ -21,7 +21,7 @@ pub(crate) struct Slots<'a> {
 }
 
 impl<'a> Slots<'a> {
-    /// The slots of the times of a range.
+    /// The slots of the times in a range.
     pub(crate) fn of(
         schema: &Schema,
         key: &'a SeriesKey,
@@ -32,7 +32,7 @@ impl<'a> Slots<'a> {
         ensures slots { seen_slots result ≡ slots_of schema.now key.now archive range.now }
         ensures first { IsSlot result.first }
     {
-        // The proof needs what the schema keeps to, which `archives` ensures.
+        // The proof needs the schema's invariant, which `archives` ensures.
         let _archives = schema.archives();
         let first = schema.slot(archive, range.first);
         let last = schema.slot(archive, range.last);
@@ -76,7 +76,7 @@ impl<'a> Slots<'a> {
         cell.key.cmp(self.key).then(places).is_lt()
     }
 
-    /// Adds a cell to others, if it is in one of them.
+    /// Appends a cell to `cells`, if it is in one of them.
     pub(crate) fn push_in(
         &self,
         cells: &mut Vec<Cell>,

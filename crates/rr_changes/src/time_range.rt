@@ -2,8 +2,8 @@
 ghost use Rattle.std.specs.Prelude.{◌≡◌};
 ghost use Rattle.rr_changes.specs.ChangeTimes.{gap, is_changed, is_empty, is_nearer_recent, widened, with_time};
 
-/// The times from a first to a last one, in nanoseconds since the Unix epoch, both included: none,
-/// where the first is after the last.
+/// The times from `first` to `last`, in nanoseconds since the Unix epoch, both included; none if
+/// `first` is after `last`.
 #[derive(Clone, Copy)]
 pub struct TimeRange {
     /// The first of them.
@@ -12,7 +12,7 @@ pub struct TimeRange {
     pub last: i64,
 }
 
-/// The range that no time is in.
+/// The range with no time in it.
 pub const NEVER: TimeRange = TimeRange {
     first: i64::MAX,
     last: i64::MIN,
@@ -39,7 +39,7 @@ impl TimeRange {
         }
     }
 
-    /// The range with a time more, and all between.
+    /// The range widened to a time, with all between.
     fn widened(&self, time: i64) -> TimeRange
         ensures { result ≡ widened self.now time }
     {
@@ -50,11 +50,11 @@ impl TimeRange {
     }
 }
 
-/// Where a series changed: most changes are in one range of times, and late ones in another, so that
-/// what is between the two doesn't count as changed.
+/// Where a series changed: most changes are in one range of times, and late ones in another, so
+/// that what lies between doesn't count as changed.
 #[derive(Clone, Copy)]
 pub struct ChangeTimes {
-    /// The range that the first change began.
+    /// The range begun by the first change.
     pub recent: TimeRange,
     /// The range of changes far from it.
     pub late: TimeRange,
@@ -75,9 +75,9 @@ const _: () = prove!(UNCHANGED.late.first == 9_223_372_036_854_775_807);
 const _: () = prove!(UNCHANGED.late.last == -9_223_372_036_854_775_808);
 
 impl ChangeTimes {
-    /// The ranges with a time more. It widens the recent one where that is empty, or no more than so
-    /// many nanoseconds from the time, or not farther from it than the late one is. Else it widens
-    /// the late one.
+    /// The ranges with a time added. It widens the recent one if that is empty, at most `near`
+    /// nanoseconds from the time, or no farther from it than the late one. Otherwise it widens the
+    /// late one.
     #[inline(always)]
     pub fn with_time(&self, near: u64, time: i64) -> ChangeTimes
         ensures { result ≡ with_time near self.now time }

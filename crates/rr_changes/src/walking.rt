@@ -1,4 +1,4 @@
-//! All cells, a number of them at a time.
+//! All cells, up to a limit at a time.
 ghost use Rattle.std.specs.Prelude.{◌≡◌, ◌<◌, IfOk, map, vec_len};
 ghost use Rattle.std.specs.FinMap.{entries};
 ghost use Rattle.std.specs.Option.{option_map};
@@ -12,7 +12,7 @@ use rr_cells::{Cell, CellRef};
 use rr_replica::{CellWalk, Replica};
 use std::alloc::{AllocError, Global};
 
-/// The first cell after one, or of all.
+/// The first cell after another, or of all.
 fn first_after<'a, A: Cells>(replica: &'a Replica<A>, after: Option<&Cell>) -> Option<CellRef<'a>>
     ensures { cells_from (option_map seen_cell result) (entries replica.now.cells)
         ≡ cells_after (name_in after.entry) (entries replica.now.cells) }
@@ -23,9 +23,9 @@ fn first_after<'a, A: Cells>(replica: &'a Replica<A>, after: Option<&Cell>) -> O
     }
 }
 
-/// The next cells of a replica: those that come first after a cell in the order of names, or first
-/// of all; as many as `limit`, and fewer only where there are no more. So whoever asks again and
-/// again, each time after the last cell, comes to each cell that stays.
+/// The next cells of a replica: the first ones after a cell in the order of names, or the first of
+/// all; as many as `limit`, and fewer only if there are no more. So repeated calls, each after the
+/// last cell of the one before, reach every cell that stays.
 ///
 /// The cost is that of `Replica::next_cell` for the first of them, and for each further one that of
 /// `CellWalk::next_cell`.
@@ -38,7 +38,7 @@ pub fn next_cells<A: Cells>(
     ensures { ListsCells replica.now.schema (next_of limit (name_in after.entry)
         (entries replica.now.cells)) result }
 {
-    // The proof needs what the replica keeps to, which `schema` ensures.
+    // The proof needs the replica's invariant, which `schema` ensures.
     let _schema = replica.schema();
     let mut cells = Vec::new(alloc);
     let mut walk = CellWalk::new(alloc, replica);

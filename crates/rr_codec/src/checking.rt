@@ -1,4 +1,4 @@
-//! Packed cells that came from elsewhere.
+//! Checking packed cells from elsewhere.
 ghost use Rattle.std.specs.Prelude.{◌≡◌, ◌<◌, None, length};
 ghost use Rattle.rr_contrib.specs.Validity.{is_valid};
 ghost use Rattle.rr_codec.specs.Fault.{Finds};
@@ -19,7 +19,7 @@ fn is_valid(contribution: &Contribution, schema: &Schema, archive: u8, slot: i64
     contribution.is_valid(schema, archive, slot)
 }
 
-/// Whether a cell is behind another, if there is one.
+/// Whether a cell is after another, if there is one.
 fn is_behind(before: &Option<SlotEntry>, cell: &SlotEntry) -> bool
     ensures { result ≡ is_behind before.now cell.now }
 {
@@ -31,7 +31,7 @@ fn is_behind(before: &Option<SlotEntry>, cell: &SlotEntry) -> bool
     }
 }
 
-/// Checks a cell: it has to be valid in its slot, and behind the one before it.
+/// Checks a cell: it must be valid in its slot, and after the one before it.
 fn check_cell(
     before: &Option<SlotEntry>,
     cell: &SlotEntry,
@@ -50,7 +50,7 @@ fn check_cell(
     Ok(())
 }
 
-/// A cell, which is checked and added to what is known, and what follows it.
+/// A cell, checked and added to what is known, and what follows it.
 #[tactic(auto, unfolding(crate::specs::Reading::checked_at))]
 fn checked_at<'a>(
     before: &Option<SlotEntry>,
@@ -73,7 +73,7 @@ fn checked_at<'a>(
     }
 }
 
-/// Goes through `count` cells, each of which is checked. Answers what follows them.
+/// Checks each of `count` cells, and returns what follows them.
 fn skip_checked<'a>(
     count: u32,
     span: u128,
@@ -100,13 +100,13 @@ fn skip_checked<'a>(
     Ok(rest)
 }
 
-/// How many cells all of the bytes are, as an archive of a schema may have them. So what a peer or
-/// a file gave is looked through before it is taken; no memory is taken for that.
+/// How many cells make up all of the bytes, each as an archive of the schema may have it. So what a
+/// peer or a file gave is checked before it is taken; the check takes no memory.
 ///
-/// The first fault from left to right refuses the bytes: those of [`decode`](crate::decode), and
-/// behind the bytes of its cell `BadContribution`, where the contribution isn't valid in its slot,
-/// and `OutOfOrder`, where the cell isn't behind the one before it, by slot and origin. The cost is
-/// linear in the bytes.
+/// Refused as the first fault from left to right: those of [`decode`](crate::decode) and, after the
+/// bytes of its cell, `BadContribution` if the contribution isn't valid in its slot, and
+/// `OutOfOrder` if the cell isn't after the one before it, by slot and origin. The cost is linear
+/// in the bytes.
 pub fn check(bytes: &[u8], schema: &Schema, archive: u8) -> Result<u32, CodecFault>
     requires { archive < length schema.now.archives }
     ensures { Finds (λ count. count) result (checked_count schema.now archive bytes.now) }

@@ -9,8 +9,8 @@ use crate::recent::Known;
 use rr_archive::Entry;
 use std::marker::Model;
 
-/// Packed cells that are read one after the other, without memory. They are seen as the cells that
-/// are left, or the first fault; what follows the last cell isn't looked at.
+/// Packed cells, read one after the other without memory. Contracts see it as the cells that are
+/// left, or the first fault; what follows the last cell isn't looked at.
 #[derive(Drop)]
 pub struct Decoder<'a> {
     known: Known,
@@ -28,7 +28,7 @@ impl<'a> Model for Decoder<'a> {
 }
 
 impl<'a> Decoder<'a> {
-    /// The cells that bytes begin with. The cost is constant.
+    /// The cells at the beginning of the bytes. The cost is constant.
     pub fn new(bytes: &'a [u8]) -> Result<Decoder<'a>, CodecFault>
         ensures { MatchResult result (λ d. d.cells ≡ cells_left (packed_at bytes.now))
             (λ fault. (packed_at bytes.now ≡ Err fault) × (fault ≢ CodecFault.Memory)) }
@@ -41,8 +41,8 @@ impl<'a> Decoder<'a> {
         })
     }
 
-    /// The next cell, if one is left, by its slot. After a fault the same one comes again. The cost
-    /// is that of its bytes and of the 16 origins before it.
+    /// The next cell with its slot, if one is left. A fault comes again at each further call. The
+    /// cost is that of its bytes and of at most 16 origins before it.
     pub fn next(&mut self) -> Result<Option<(i64, Entry)>, CodecFault>
         ensures { TakesNext self.old self.new result }
     {

@@ -1,4 +1,4 @@
-//! Packed cells, read.
+//! Reading packed cells.
 ghost use Rattle.std.specs.Prelude.{◌≡◌, ◌≢◌, ◌^◌, Err, IsOk, IfOk, OnErr, MatchResult};
 ghost use Rattle.rr_text.specs.Results.{GivesUnless, NeedsMemoryAfter};
 ghost use Rattle.rr_codec.specs.Fault.{Finds};
@@ -12,10 +12,10 @@ use crate::recent::Known;
 use rr_archive::Entry;
 use std::alloc::{AllocError, Global};
 
-/// A cell, by its slot.
+/// A cell with its slot.
 pub(crate) type SlotEntry = (i64, Entry);
 
-/// A cell, which is added to what is known, and what follows it.
+/// A cell, added to what is known, and what follows it.
 #[tactic(auto, unfolding(crate::specs::Reading::cell_at))]
 pub(crate) fn cell_at<'a>(
     known: &mut Known,
@@ -40,7 +40,7 @@ fn count_of(number: u128) -> Result<u32, CodecFault>
     }
 }
 
-/// How many cells there are, and the nanoseconds of a row, and what follows them.
+/// How many cells there are, the nanoseconds of a row, and what follows them.
 #[tactic(auto, unfolding(crate::specs::Reading::head_at))]
 pub(crate) fn head_at(bytes: &[u8]) -> Result<(u32, u128, &[u8]), CodecFault>
     ensures { Finds (λ x. ((x.0, x.1), x.2.now)) result (head_at bytes.now) }
@@ -51,7 +51,7 @@ pub(crate) fn head_at(bytes: &[u8]) -> Result<(u32, u128, &[u8]), CodecFault>
     Ok((count, span, rest))
 }
 
-/// Goes through `count` cells. Answers what follows them.
+/// Goes through `count` cells, and returns what follows them.
 fn skip<'a>(known: &mut Known, count: u32, bytes: &'a [u8]) -> Result<&'a [u8], CodecFault>
     ensures { Finds (λ rest. rest.now) result (rest_of (cells_at known.old count bytes.now)) }
 {
@@ -65,7 +65,7 @@ fn skip<'a>(known: &mut Known, count: u32, bytes: &'a [u8]) -> Result<&'a [u8], 
     Ok(rest)
 }
 
-/// So many cells, which the bytes begin with.
+/// The first `count` cells of the bytes.
 fn collect(
     alloc: Global,
     known: &mut Known,
@@ -87,7 +87,7 @@ fn collect(
     Ok(cells)
 }
 
-/// How many cells all of the bytes are, the nanoseconds of a row, and the cells.
+/// How many cells make up all of the bytes, the nanoseconds of a row, and the cells.
 fn whole(bytes: &[u8]) -> Result<(u32, u128, &[u8]), CodecFault>
     ensures { MatchResult result (λ x. IsWhole bytes.now x.0 x.1 x.2.now)
         (λ fault. (cells_of bytes.now ≡ Err fault) × (fault ≢ CodecFault.Memory)) }
@@ -100,13 +100,12 @@ fn whole(bytes: &[u8]) -> Result<(u32, u128, &[u8]), CodecFault>
     Ok((count, span, cells))
 }
 
-/// The cells that all of the bytes are.
+/// The cells that make up all of the bytes.
 ///
-/// The first fault from left to right refuses them: `Short`, where the bytes end before a number
-/// does; `BadNumber`, where a number isn't spelled in the one way that it may be, is no number of
-/// cells below 2^32, or none that its field can have; `BadOrigin`; and `TrailingBytes` at the end.
-/// `Memory` comes only if the bytes are good. The cost is linear in the bytes, which are gone
-/// through twice.
+/// Refused as the first fault from left to right: `Short` if the bytes end before a number does;
+/// `BadNumber` if a number isn't spelled in the one way it may be, is a count of cells not below
+/// 2^32, or is none that its field can have; `BadOrigin`; and `TrailingBytes` at the end. `Memory`
+/// comes only if the bytes are good. The cost is linear in the bytes, which are read twice.
 pub fn decode(alloc: Global, bytes: &[u8]) -> Result<Vec<(i64, Entry)>, CodecFault>
     ensures value { GivesUnless CodecFault.Memory (λ cells. cells.items) result
         (cells_of bytes.now) }

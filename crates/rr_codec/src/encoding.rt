@@ -1,4 +1,4 @@
-//! Packed cells, written.
+//! Writing packed cells.
 ghost use Rattle.std.specs.Prelude.{◌≡◌, ℕ, ◌<◌, ◌≤◌, ◌+◌, ◌*◌, ◌^◌, ◌++◌, [], All, IfOk, OnOk, Ok, length};
 ghost use Rattle.rr_codec.specs.Fields.{IsTyped, fields_of};
 ghost use Rattle.rr_codec.specs.Reading.{packed_at};
@@ -12,11 +12,11 @@ use crate::steps::push_steps;
 use rr_archive::Entry;
 use std::alloc::{AllocError, Global};
 
-/// How many nanoseconds a second has.
+/// The nanoseconds of a second.
 const NANOS: u128 = 1_000_000_000;
 
-/// The nanoseconds of a row, to whole seconds, as the last times of the first and the last cell let
-/// guess. What it answers decides how many bytes the cells take, and not which cells are read.
+/// A guess at the nanoseconds of a row, to whole seconds, from the last times of the first and the
+/// last cell. It decides how many bytes the cells take, not which cells are read.
 fn guessed_span(cells: &[(i64, Entry)]) -> u128
     ensures { result < 2 ^ 128 }
 {
@@ -71,7 +71,7 @@ fn push_each(bytes: &mut Vec<u8>, span: u128, cells: &[(i64, Entry)]) -> Result<
     Ok(())
 }
 
-/// Adds cells. For one alone no room is made for what would be known before others.
+/// Adds cells. For a single one, no room is made for what would be known before others.
 fn push_cells(bytes: &mut Vec<u8>, span: u128, cells: &[(i64, Entry)]) -> Result<(), AllocError>
     ensures added { OnOk result (bytes.new.items
         ≡ bytes.old.items ++ cells_text (nothing_known span) cells.now) }
@@ -83,13 +83,13 @@ fn push_cells(bytes: &mut Vec<u8>, span: u128, cells: &[(i64, Entry)]) -> Result
     push_each(bytes, span, cells)
 }
 
-/// The cells of an archive as packed bytes, fewer than 2^32 of them. They are read again as these,
-/// whatever follows them. The cost is linear in the cells, and for each in the origins of those
-/// before it, of which 16 are looked at.
+/// The cells of an archive, fewer than 2^32 of them, as packed bytes. These are read as the same
+/// cells, whatever follows them. The cost is linear in the cells and, for each, in the origins of
+/// those before it, of which 16 are looked at.
 ///
 /// A cell takes 1 byte if it is as expected. It takes 123 at most: 2 for the flags, 10 for each of
-/// six fields of 64 bits, 19 for the last time, the sum and the mask, 3 for the origin and 1 for
-/// its place.
+/// six fields of 64 bits, 19 each for the last time, the sum and the mask, 3 for the origin and 1
+/// for its place.
 pub fn encode(alloc: Global, cells: &[(i64, Entry)]) -> Result<Vec<u8>, AllocError>
     requires { length cells.now < 2 ^ 32 }
     ensures read { IfOk result (λ bytes. packed_at bytes.items ≡ Ok (cells.now, [])) }

@@ -9,7 +9,7 @@ use crate::fields::Fields;
 use crate::regular::RegularSteps;
 use crate::step::{is_expected, step_from, step_to};
 
-/// What the next cell of an origin is expected by.
+/// What the next cell of an origin is expected from.
 #[derive(Clone, Copy)]
 pub(crate) struct Before {
     /// The last cell of the origin.
@@ -18,8 +18,8 @@ pub(crate) struct Before {
     pub(crate) stride: u128,
 }
 
-/// Whether a cell is of the same origin as another, in the next slot, of as many samples at the same
-/// places.
+/// Whether a cell is of the same origin as another, in the next slot, with as many samples at the
+/// same places.
 #[inline(always)]
 fn goes_on(before: &Fields, cell: &Fields) -> bool
     ensures { IsTrue result → GoesOn before.now cell.now }
@@ -56,7 +56,7 @@ impl Before {
         Before { cell, stride: 0 }
     }
 
-    /// The version: as much greater as the last one was.
+    /// The version: as much greater as last time.
     #[tactic(auto, unfolding(crate::specs::Expecting::expected_version))]
     fn expected_version(&self) -> u128
         ensures { result ≡ expected_version self.now }
@@ -64,7 +64,7 @@ impl Before {
         self.cell.version.wrapping_add(self.stride)
     }
 
-    /// The last time: at the same moment of its row.
+    /// The last time: at the same moment within its row.
     #[inline(always)]
     #[tactic(auto, unfolding(crate::specs::Expecting::expected_time))]
     fn expected_time(&self, span: u128, slot: u128) -> u128
@@ -75,7 +75,7 @@ impl Before {
         self.cell.last_time.wrapping_add(nanos)
     }
 
-    /// The least value: as far from the last one as before.
+    /// The least value: as far from the last value as before.
     #[tactic(auto, unfolding(crate::specs::Expecting::expected_min))]
     fn expected_min(&self, last_value: u128) -> u128
         ensures { result ≡ expected_min self.now last_value }
@@ -84,7 +84,7 @@ impl Before {
         last_value.wrapping_add(up)
     }
 
-    /// The greatest value: as far from the last one as before.
+    /// The greatest value: as far from the last value as before.
     #[tactic(auto, unfolding(crate::specs::Expecting::expected_max))]
     fn expected_max(&self, last_value: u128) -> u128
         ensures { result ≡ expected_max self.now last_value }
@@ -114,7 +114,7 @@ impl Before {
         }
     }
 
-    /// The steps to a regular cell; none to another one.
+    /// The steps to a regular cell; none to any other.
     #[inline(always)]
     pub(crate) fn regular_steps_to(&self, span: u128, cell: &Fields) -> Option<RegularSteps>
         ensures steps { IfSome result
@@ -175,7 +175,7 @@ impl Before {
     }
 }
 
-/// The sum of values halfway between two.
+/// The sum of `count` values halfway between `min` and `max`.
 #[tactic(auto, unfolding(crate::specs::Expecting::expected_sum))]
 fn expected_sum(count: u128, min: u128, max: u128) -> u128
     ensures { result ≡ expected_sum count min max }

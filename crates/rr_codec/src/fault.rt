@@ -11,8 +11,8 @@ use thiserror::Error;
 pub enum CodecFault {
     /// The bytes end before a number does.
     Short,
-    /// A number has more bytes or is greater than its field can be, or isn't written in the one way
-    /// in which it may be.
+    /// A number has more bytes or is greater than its field can be, or isn't spelled in the one way
+    /// it may be.
     BadNumber,
     /// The origin is 0.
     BadOrigin,

@@ -1,4 +1,4 @@
-//! The fields of a cell as numbers from 0 on.
+//! The fields of a cell as unsigned numbers.
 ghost use Rattle.std.specs.Prelude.{◌≡◌, ◌^◌};
 ghost use Rattle.std.specs.Int.{w128, cast_unsigned};
 ghost use Rattle.rr_codec.specs.Fault.{Finds};
@@ -9,7 +9,7 @@ use rr_archive::Entry;
 use rr_contrib::Contribution;
 use rr_schema::Origin;
 
-/// The fields of a cell: one with a sign is its two's complement of 128 bits.
+/// The fields of a cell; a signed one is its two's complement of 128 bits.
 #[derive(Clone, Copy)]
 pub(crate) struct Fields {
     pub(crate) slot: u128,
@@ -24,7 +24,7 @@ pub(crate) struct Fields {
     pub(crate) mask: u128,
 }
 
-/// A number with a sign as its two's complement.
+/// A signed number as its two's complement.
 fn unsigned(number: i64) -> u128
     ensures { result ≡ cast_unsigned w128 number }
 {
@@ -35,7 +35,7 @@ fn unsigned(number: i64) -> u128
 #[tactic(auto, unfolding(crate::specs::Fields::fields_of))]
 pub(crate) fn fields_of(cell: &(i64, Entry)) -> Fields
     ensures value { result ≡ fields_of cell.now }
-    // What its types say of the cell.
+    // What the cell's types say of it.
     ensures typed { IsTyped cell.now }
 {
     let (slot, entry) = *cell;
@@ -54,7 +54,7 @@ pub(crate) fn fields_of(cell: &(i64, Entry)) -> Fields
     }
 }
 
-/// A number with a sign, from its two's complement.
+/// A signed number, from its two's complement.
 fn signed_of(number: u128) -> Result<i64, CodecFault>
     ensures { Finds (λ x. x) result (signed_of number) }
 {
@@ -87,7 +87,7 @@ fn origin_of(number: u128) -> Result<Origin, CodecFault>
     }
 }
 
-/// The cell of these fields.
+/// The cell with these fields.
 #[tactic(auto, unfolding(crate::specs::Fields::cell_of))]
 pub(crate) fn cell_of(fields: &Fields) -> Result<(i64, Entry), CodecFault>
     ensures { Finds (λ x. x) result (cell_of fields.now) }

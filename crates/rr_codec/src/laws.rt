@@ -1,18 +1,18 @@
-//! The laws of packed cells, with no work to do: the functions have empty bodies.
+//! The laws of packed cells: functions with empty bodies, whose contracts state them.
 ghost use Rattle.rr_codec.specs.Laws.{ReadingsAreTexts, TextsAreRead, WhatIsTakenIsChecked};
 
-/// The text of some cells is read as these, whatever follows it. So no text begins another.
+/// The text of some cells is read as these, whatever follows it. So no text is a prefix of another.
 pub fn texts_are_read()
     ensures { TextsAreRead }
 {}
 
-/// Bytes that are read as some cells are their text, and what follows it. So for one span there is
-/// one text.
+/// Bytes that are read as some cells are their text, and what follows it. So there is one text for
+/// each span.
 pub fn readings_are_texts()
     ensures { ReadingsAreTexts }
 {}
 
-/// Bytes that [`check`](crate::check) takes are read by [`decode`](crate::decode), as cells that
+/// Bytes that [`check`](crate::check) accepts are read by [`decode`](crate::decode), as cells that
 /// are valid in their slots and ascend by slot and origin.
 pub fn what_is_taken_is_checked()
     ensures { WhatIsTakenIsChecked }

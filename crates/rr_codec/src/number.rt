@@ -1,5 +1,4 @@
-//! Numbers as bytes: seven bits each, the lowest first; the highest bit is set in each but the
-//! last.
+//! Numbers as bytes: seven bits each, lowest first; the highest bit is set in all but the last.
 ghost use Rattle.std.specs.Prelude.{◌≡◌, ◌<◌, ◌++◌, IfSome, Ok, OnOk};
 ghost use Rattle.rr_codec.specs.Fault.{Finds};
 ghost use Rattle.rr_codec.specs.Numbers.{is_bad_high, number_text, number_within, number_at};
@@ -7,7 +6,7 @@ ghost use Rattle.rr_codec.specs.Numbers.{is_bad_high, number_text, number_within
 use crate::fault::CodecFault;
 use std::alloc::AllocError;
 
-/// How many bytes a number of 128 bits has at most.
+/// The most bytes a number of 128 bits has.
 const MOST: u32 = 19;
 
 const _: () = prove!(MOST == 19);
@@ -41,7 +40,8 @@ pub(crate) fn push_number(bytes: &mut Vec<u8>, number: u128) -> Result<(), Alloc
     push_bytes(bytes, number)
 }
 
-/// Whether no number of 128 bits has these bits above its lowest seven.
+/// Whether no number written in its fewest bytes has these bits above its lowest seven: they are all
+/// zero, or too many for 128 bits.
 fn is_bad_high(high: u128) -> bool
     ensures { result ≡ is_bad_high high }
 {

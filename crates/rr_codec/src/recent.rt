@@ -14,21 +14,21 @@ use crate::steps::{Steps, steps_at};
 use arrayvec::ArrayVec;
 use std::marker::Model;
 
-/// Of how many origins the last cell is known.
+/// The number of origins whose last cell is known.
 const MAX_ORIGINS: usize = 16;
 
 const _: () = prove!(MAX_ORIGINS == 16);
 
-/// The last cells of the origins that were seen last, the newest first.
+/// The last cells of the origins seen last, the latest first.
 type Recent = ArrayVec<Before, MAX_ORIGINS>;
 
 /// What is known before a cell.
 #[derive(Drop)]
 pub(crate) struct Known {
-    /// How many nanoseconds a row has.
+    /// The nanoseconds of a row.
     span: u128,
     recent: Recent,
-    /// Where in the list the origin of the cell before was.
+    /// Where in the list the origin of the previous cell was.
     place: usize,
 }
 
@@ -43,7 +43,7 @@ impl Model for Known {
     ghost invariant = { λ k. length k.recent.items ≤ 16 };
 }
 
-/// Where an origin is among those that were seen last, if it is there.
+/// Where an origin is among those seen last, if it is there.
 fn found(recent: &[Before], origin: u128) -> Option<usize>
     ensures { result ≡ position_from (is_of origin) 0 recent.now }
 {
@@ -52,14 +52,14 @@ fn found(recent: &[Before], origin: u128) -> Option<usize>
         .position(|before| before.cell.origin == origin)
 }
 
-/// Where an origin is among those that were seen last; behind all, if it isn't there.
+/// Where an origin is among those seen last; past the end, if it isn't there.
 fn place_of(recent: &[Before], origin: u128) -> usize
     ensures { result ≡ place_of recent.now origin }
 {
     found(recent, origin).unwrap_or(recent.len())
 }
 
-/// What a cell of the origin at a place is expected by.
+/// What a cell of the origin at a place is expected from.
 fn before_at(recent: &[Before], place: usize) -> Before
     ensures { result ≡ before_at recent.now place }
 {
@@ -69,7 +69,7 @@ fn before_at(recent: &[Before], place: usize) -> Before
     }
 }
 
-/// Takes out what is at a place, and otherwise the last if the list is full.
+/// Removes what is at a place or, if nothing is, the last if the list is full.
 fn take_out(recent: &mut Recent, place: usize)
     ensures { recent.new.items ≡ others recent.old.items place }
 {
@@ -119,7 +119,7 @@ impl Known {
         }
     }
 
-    /// What the next cell is expected by, if it is expected to be of the origin of the last one.
+    /// What the next cell is expected from, if it is expected to be of the last one's origin.
     fn regular(&self) -> Option<&Before>
         ensures { IfSome result (λ before. IsLast self.now before.now) }
     {
@@ -129,7 +129,7 @@ impl Known {
         self.recent.first()
     }
 
-    /// The steps to a regular cell; none to another one.
+    /// The steps to a regular cell; none to any other.
     #[inline(always)]
     pub(crate) fn regular_steps_to(&self, cell: &Fields) -> Option<RegularSteps>
         ensures { IfSome result (λ steps. known_steps self.now cell.now ≡ all_steps steps) }
@@ -139,7 +139,7 @@ impl Known {
         Some(steps)
     }
 
-    /// The fields of a regular cell, and what follows it; none of another one, or at a fault.
+    /// The fields of a regular cell, and what follows it; none for any other, or at a fault.
     #[inline(always)]
     fn regular_fields_at<'a>(&self, bytes: &'a [u8]) -> Option<(Fields, &'a [u8])>
         ensures { IfSome result (λ x. known_fields_at self.now bytes.now ≡ Ok (x.0, x.1.now)) }
@@ -149,7 +149,7 @@ impl Known {
         Some((before.fields_from(self.span, &steps.fields()), rest))
     }
 
-    /// The fields of a cell, and what follows it, by all that is known.
+    /// The fields of a cell, and what follows it, from all that is known.
     #[tactic(auto, unfolding(crate::specs::Recent::known_fields_at))]
     fn any_fields_at<'a>(&self, bytes: &'a [u8]) -> Result<(Fields, &'a [u8]), CodecFault>
         ensures { Finds (λ x. (x.0, x.1.now)) result (known_fields_at self.now bytes.now) }
@@ -170,8 +170,8 @@ impl Known {
         }
     }
 
-    /// The fields that steps lead to from what is expected at a place, which has to be that of
-    /// their origin.
+    /// The fields that steps lead to from what is expected at a place, which must be that of their
+    /// origin.
     fn fields_from_place(&self, place: usize, steps: &Fields) -> Result<Fields, CodecFault>
         ensures { Finds (λ f. f) result (fields_at self.now place steps.now) }
     {
@@ -189,12 +189,12 @@ impl Known {
     {
         match usize::try_from(step_from(self.place as u128, steps.place)) {
             Ok(place) => self.fields_from_place(place, &steps.fields),
-            // No origin is so far behind.
+            // No origin is that far back.
             Err(_) => Err(CodecFault::BadNumber),
         }
     }
 
-    /// Adds a cell of another origin than the one before it has.
+    /// Adds a cell of a different origin than the one before it.
     #[tactic(auto, unfolding(crate::specs::Recent::known_after))]
     fn add_other(&mut self, cell: &Fields)
         ensures { self.new ≡ known_after self.old cell.now }

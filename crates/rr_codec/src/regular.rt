@@ -1,6 +1,6 @@
 //! The steps of a cell that goes on as most do: it is of the origin of the last one, in the next
-//! slot, of as many samples at the same places. So but for six its steps are 0, and it is written
-//! and read without a look at the other origins.
+//! slot, with as many samples at the same places. So all but six of its steps are 0, and it is
+//! written and read without looking at the other origins.
 ghost use Rattle.std.specs.Prelude.{◌≡◌, ◌++◌, ◌/◌, IfSome, Ok, OnOk};
 ghost use Rattle.rr_codec.specs.Regular.{all_steps};
 ghost use Rattle.rr_codec.specs.Steps.{flags_of, step_at, steps_at, steps_text};
@@ -10,7 +10,7 @@ use crate::number::{byte_at, number_at, push_number};
 use crate::steps::{flagged, push_step};
 use std::alloc::AllocError;
 
-/// Flags below this are of these six steps alone.
+/// Flags below this are of only these six steps.
 const ABOVE_REGULAR: u8 = 64;
 
 const _: () = prove!(ABOVE_REGULAR == 64);
@@ -74,7 +74,7 @@ impl RegularSteps {
     }
 }
 
-/// A step by its flag, the first of these, the other flags, and what follows it; none at a fault.
+/// A step by the first of the flags, the other flags, and what follows it; none at a fault.
 #[inline(always)]
 fn step_at(flags: u8, bytes: &[u8]) -> Option<(u128, u8, &[u8])>
     ensures flags { IfSome result (λ x. x.1 ≡ flags / 2) }
@@ -89,7 +89,7 @@ fn step_at(flags: u8, bytes: &[u8]) -> Option<(u128, u8, &[u8])>
     }
 }
 
-/// The steps of a regular cell, and what follows them; none of another one, or at a fault.
+/// The steps of a regular cell, and what follows them; none for any other, or at a fault.
 #[inline(always)]
 pub(crate) fn regular_at(bytes: &[u8]) -> Option<(RegularSteps, &[u8])>
     ensures { IfSome result (λ x. steps_at bytes.now ≡ Ok (all_steps x.0, x.1.now)) }

@@ -1,8 +1,8 @@
-//! Steps from expected numbers to others, up or down, as numbers from 0 on.
+//! Steps from expected numbers to others, up or down, as unsigned numbers.
 ghost use Rattle.std.specs.Prelude.{◌≡◌, IsTrue};
 ghost use Rattle.rr_codec.specs.Steps.{zigzag, unzigzag, step_to, step_from};
 
-/// A difference, where those just below 0 are small too: 0, up 1 as 2, down 1 as 1, and so on.
+/// A difference as a number that is small just below 0 too: 0, up 1 as 2, down 1 as 1, and so on.
 fn zigzag(difference: u128) -> u128
     ensures { result ≡ zigzag difference }
 {
@@ -13,7 +13,7 @@ fn zigzag(difference: u128) -> u128
     }
 }
 
-/// The difference that `zigzag` made this of.
+/// The difference that `zigzag` made this from.
 fn unzigzag(step: u128) -> u128
     ensures { result ≡ unzigzag step }
 {

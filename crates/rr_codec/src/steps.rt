@@ -1,4 +1,4 @@
-//! Eleven steps as bytes: flags that say which of them are not 0, and these.
+//! Eleven steps as bytes: flags that say which of them are not 0, and then those.
 ghost use Rattle.std.specs.Prelude.{◌≡◌, ◌<◌, ◌≤◌, ◌+◌, ◌*◌, ◌^◌, ◌++◌, OnOk};
 ghost use Rattle.rr_codec.specs.Fault.{Finds};
 ghost use Rattle.rr_codec.specs.Steps.{flagged, flags_at, flags_of, step_text, steps_text, step_at, steps_at};
@@ -11,18 +11,18 @@ use std::alloc::AllocError;
 /// The steps from what is expected of a cell to what it has.
 #[derive(Clone, Copy)]
 pub(crate) struct Steps {
-    /// That of the place of its origin.
+    /// The step of its origin's place.
     pub(crate) place: u128,
-    /// Those of its fields.
+    /// The steps of its fields.
     pub(crate) fields: Fields,
 }
 
-/// The greatest flags: those of eleven steps.
+/// The greatest flags: all eleven set.
 const MAX_FLAGS: u128 = 2_047;
 
 const _: () = prove!(MAX_FLAGS == 2_047);
 
-/// The flag of a step in front of others.
+/// The flag of a step, put before others.
 pub(crate) fn flagged(step: u128, others: u32) -> u32
     requires { others < 2 ^ 31 }
     ensures value { result ≡ flagged step others }
@@ -79,7 +79,7 @@ pub(crate) fn push_steps(bytes: &mut Vec<u8>, steps: &Steps) -> Result<(), Alloc
     push_step(bytes, fields.origin)
 }
 
-/// A step by its flag, the first of these, the other flags, and what follows it.
+/// A step by the first of the flags, the other flags, and what follows it.
 fn step_at(flags: u32, bytes: &[u8]) -> Result<(u128, u32, &[u8]), CodecFault>
     ensures { Finds (λ x. (x.0, x.1, x.2.now)) result (step_at flags bytes.now) }
 {

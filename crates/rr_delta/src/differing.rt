@@ -12,7 +12,7 @@ use rr_cells::{Cell, CellRef};
 use rr_replica::{CellWalk, Replica};
 use std::alloc::{AllocError, Global};
 
-/// The names without those at the beginning that are before a cell's.
+/// The names from the first one that isn't before a cell's.
 fn names_from<'a>(names: &'a [Name], cell: &CellRef<'_>) -> &'a [Name]
     ensures { map owned_name result.now ≡ names_from (seen_cell cell.now).0
         (map owned_name names.now) }
@@ -27,7 +27,7 @@ fn names_from<'a>(names: &'a [Name], cell: &CellRef<'_>) -> &'a [Name]
     left
 }
 
-/// The version of the first of these names, if it is a cell's.
+/// The version of the first of these names, if that is the cell's.
 fn first_version(names: &[Name], cell: &CellRef<'_>) -> Option<u64>
     ensures { result ≡ first_version (seen_cell cell.now).0 (map owned_name names.now) }
 {
@@ -43,7 +43,7 @@ fn first_version(names: &[Name], cell: &CellRef<'_>) -> Option<u64>
     }
 }
 
-/// Whether a version is greater than this one, or there is none.
+/// Whether a version is greater than the known one, or none is known.
 fn is_newer_than(known: Option<u64>, version: u64) -> bool
     ensures { result ≡ is_newer_than known version }
 {
@@ -53,7 +53,7 @@ fn is_newer_than(known: Option<u64>, version: u64) -> bool
     }
 }
 
-/// Adds a cell, if its version is greater than the one that is known, or none is.
+/// Adds a cell, if its version is greater than the known one, or none is known.
 fn push_newer(
     cells: &mut Vec<Cell>,
     cell: &CellRef<'_>,
@@ -71,8 +71,8 @@ fn push_newer(
 /// The cells of a replica whose name a summary lacks, or has with a smaller version, in the order
 /// of their names. The names of the summary strictly ascend.
 ///
-/// The replica and the summary are walked along side by side: the cost is that of
-/// `CellWalk::next_cell` for each cell, and linear in the summary.
+/// The replica and the summary are walked side by side: the cost is that of `CellWalk::next_cell`
+/// for each cell, and linear in the summary.
 pub fn difference<A: Cells>(
     alloc: Global,
     replica: &Replica<A>,
@@ -82,7 +82,7 @@ pub fn difference<A: Cells>(
     ensures { ListsCells replica.now.schema
         (newer_cells (map owned_name summary.now) (entries replica.now.cells)) result }
 {
-    // The proof needs what the replica keeps to, which `schema` ensures.
+    // The proof needs the replica's invariant, which `schema` ensures.
     let _schema = replica.schema();
     let mut cells = Vec::new(alloc);
     let mut names = summary;
@@ -96,8 +96,8 @@ pub fn difference<A: Cells>(
     Ok(cells)
 }
 
-/// As many cells of a list as `count` from an offset on; fewer where there are fewer, and none past
-/// the end. The cost is constant.
+/// The `count` cells of a list from an offset on; fewer if there are fewer, and none past the end.
+/// The cost is constant.
 pub fn part(list: &[Cell], from: usize, count: usize) -> &[Cell]
     ensures { result.now ≡ take count (drop from list.now) }
 {

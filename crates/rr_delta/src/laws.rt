@@ -1,21 +1,20 @@
-//! The laws of differences, with no work to do: the functions have empty bodies.
+//! The laws of differences: functions with empty bodies, whose contracts state them.
 ghost use Rattle.rr_delta.specs.Laws.{DifferenceIsByVersions, DifferenceIsOfKnowledges, DifferencesAreCutFromEntries, DifferenceBringsTheJoin, KnowledgesAgree, DifferenceUnites};
 
-/// Against the summary of all cells the difference is that by versions; so of closed knowledges it
-/// is what the one has and the other lacks, and a part of it is of whole cells.
+/// Against the summary of all cells, the difference is that by versions; so for closed knowledges
+/// it is what one has and the other lacks, and a part of it has whole cells.
 pub fn a_difference_is_by_versions()
     ensures cells { DifferenceIsByVersions }
     ensures knowledges { DifferenceIsOfKnowledges }
     ensures cut { DifferencesAreCutFromEntries }
 {}
 
-/// To join the difference is to join all cells, where equal versions of one cell mean equal
-/// contents.
+/// Joining the difference is joining all cells, if equal versions of one cell mean equal contents.
 pub fn a_difference_brings_the_join()
     ensures { DifferenceBringsTheJoin }
 {}
 
-/// Of two knowledges without gaps, equal versions of one cell mean equal contents, so to join the
+/// For two knowledges without gaps, equal versions of one cell mean equal contents, so joining the
 /// difference gives the cells of what either knows.
 pub fn a_difference_unites()
     ensures agree { KnowledgesAgree }

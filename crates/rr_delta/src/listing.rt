@@ -12,8 +12,8 @@ use rr_cells::CellRef;
 use rr_replica::{CellWalk, Replica};
 use std::alloc::{AllocError, Global};
 
-/// The names and versions of as many cells as `count` from one on; fewer where there are fewer. The
-/// cost is that of `CellWalk::next_cell` for each of them.
+/// The names and versions of `count` cells from `first` on; fewer if there are fewer. The cost is
+/// that of `CellWalk::next_cell` for each of them.
 fn listed_from<'a, A: Cells>(
     alloc: Global,
     replica: &'a Replica<A>,
@@ -43,8 +43,8 @@ fn listed_from<'a, A: Cells>(
     Ok(names)
 }
 
-/// The names and versions of as many cells as `count` from an offset on, in the order of the names;
-/// fewer where there are fewer.
+/// The names and versions of `count` cells from an offset on, in the order of the names; fewer if
+/// there are fewer.
 ///
 /// The cost is that of `Replica::cell_at` for the first, and for each further one that of
 /// `CellWalk::next_cell`.
@@ -57,7 +57,7 @@ pub fn summary<A: Cells>(
     ensures { ListsNames replica.now.schema (take count (drop from (versions_of replica.now.cells)))
         result }
 {
-    // The proof needs what the replica keeps to, which `schema` ensures.
+    // The proof needs the replica's invariant, which `schema` ensures.
     let _schema = replica.schema();
     match replica.cell_at(from) {
         Some(first) => listed_from(alloc, replica, &first, count),
@@ -65,9 +65,8 @@ pub fn summary<A: Cells>(
     }
 }
 
-/// The names and versions of the next cells after a name, or of the first ones where there is none:
-/// as many as `count`, in the order of the names; fewer where there are fewer. No cell needs to be
-/// at the name.
+/// The names and versions of the next `count` cells after a name, or of the first ones if there is
+/// none, in the order of the names; fewer if there are fewer. No cell needs to be at the name.
 ///
 /// The cost is that of `Replica::next_cell` for the first, and for each further one that of
 /// `CellWalk::next_cell`.
@@ -81,7 +80,7 @@ pub fn summary_after<A: Cells>(
         (take count (map named_version (cells_after (name_in after.entry)
         (entries replica.now.cells)))) result }
 {
-    // The proof needs what the replica keeps to, which `schema` ensures.
+    // The proof needs the replica's invariant, which `schema` ensures.
     let _schema = replica.schema();
     let Some(name) = after else {
         return summary(alloc, replica, 0, count);

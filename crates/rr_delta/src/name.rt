@@ -39,7 +39,7 @@ impl Name {
         })
     }
 
-    /// Whether it comes before the name of a cell, is that name, or comes after it.
+    /// Compares it with the name of a cell.
     pub(crate) fn cmp_cell(&self, cell: &CellRef<'_>) -> Ordering
         ensures { result ≡ cell_name_cmp (owned_name self.now).0 (seen_cell cell.now).0 }
     {

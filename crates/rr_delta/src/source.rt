@@ -16,10 +16,10 @@ use rr_replica::Replica;
 use rr_schema::Schema;
 use std::alloc::{AllocError, Global};
 
-/// Whoever gives cells to others: it answers what a summary lacks.
+/// Gives cells to others: those that a summary lacks.
 ///
-/// It is seen as a map of cells of a schema, those that it answered from last, and by what it may
-/// become: a relation, of its own choice, between what stands before calls and after them.
+/// Contracts see it as a map of cells of a schema, those that it answered from last, and by what it
+/// may become: a relation, of its own choice, between its states before and after calls.
 pub trait Source {
     ghost layout: { Self → Layout };
 
@@ -33,7 +33,7 @@ pub trait Source {
         ensures within { IsLayout (layout self.now) };
 
     /// The cells whose name a summary lacks, or has with a smaller version, in the order of their
-    /// names. The names of the summary strictly ascend. All of the answer is of one moment.
+    /// names. The names of the summary strictly ascend. The whole answer is of one moment.
     fn difference(&mut self, alloc: Global, summary: &[Name]) -> Result<Vec<Cell>, AllocError>
         requires { IsSummary (map owned_name summary.now) }
         ensures lists { ListsCells (layout self.new)

@@ -20,12 +20,12 @@ use rr_replica::Replica;
 use rr_schema::Schema;
 use std::alloc::{AllocError, Global};
 
-/// Whoever takes cells from elsewhere: it says which it has, and joins those that it is given.
+/// Takes cells from elsewhere: it says which it has, and joins those it is given.
 ///
-/// It is seen as a map of cells of a schema, none of them past the horizon, and by which cells it
-/// has joined: a relation, of its own choice, between what stands before calls, what stands after
-/// them, and these cells, one by one and in order. Whatever the relation, they are then joined into
-/// the map.
+/// Contracts see it as a map of cells of a schema, none of them past the horizon, and by which
+/// cells it has joined: a relation, of its own choice, between its states before and after calls
+/// and these cells, one by one and in order. Whatever the relation, they are then joined into the
+/// map.
 pub trait Target {
     ghost layout: { Self → Layout };
 
@@ -40,16 +40,15 @@ pub trait Target {
         ensures live { IsTrimmed (layout self.now) (cells self.now) }
         ensures of_schema { All (IsCellOf (layout self.now)) (entries (cells self.now)) };
 
-    /// The names and versions of as many cells as `count` from an offset on, in the order of the
-    /// names; fewer where there are fewer.
+    /// The names and versions of `count` cells from an offset on, in the order of the names; fewer
+    /// if there are fewer.
     fn names(&self, alloc: Global, from: usize, count: usize) -> Result<Vec<Name>, AllocError>
         ensures { ListsNames (layout self.now)
             (take count (drop from (versions_of (cells self.now)))) result };
 
-    /// The names and versions of as many cells as `count` after a name, or of the first ones where
-    /// there is none, in the order of the names; fewer where there are fewer. A walk over all cells
-    /// goes on by it from the last name that it has, at a cost that does not grow with what is
-    /// behind.
+    /// The names and versions of `count` cells after a name, or of the first ones if there is none,
+    /// in the order of the names; fewer if there are fewer. With it, a walk over all cells goes on
+    /// from the last name it has, at a cost that does not grow with what it has passed.
     fn names_after(
         &self,
         alloc: Global,
@@ -59,8 +58,8 @@ pub trait Target {
         ensures { ListsNames (layout self.now) (take count (map named_version
             (cells_after (name_in after.entry) (entries (cells self.now))))) result };
 
-    /// Joins a cell, which is valid under the schema: of it and what stands at its name the greater
-    /// stays, and then only the live cells. After an error nothing has changed.
+    /// Joins a cell, which is valid under the schema: the greater of it and what is at its name is
+    /// kept, and then only the live cells. After an error nothing has changed.
     fn join_cell(&mut self, cell: &Cell) -> Result<(), AllocError>
         requires { IsCellOf (layout self.old) (owned_cell cell.now) }
         ensures joined { OnOk result (has_joined self.old self.new (owned_cell cell.now ∷ [])) }

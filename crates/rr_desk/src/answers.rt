@@ -1,4 +1,4 @@
-//! What readers make of the copies, each under the rule.
+//! What readers do with the copies, all under the rule.
 ghost use Rattle.std.specs.Prelude.{◌≡◌, IfOk, IfSome, map};
 ghost use Rattle.std.specs.FinMap.{entries};
 ghost use Rattle.left_right.specs.Sides.{view};
@@ -27,7 +27,7 @@ use rr_key::SeriesKey;
 use rr_replica::Replica;
 use std::alloc::{AllocError, Global};
 
-/// The answer to a request from the copy that is shown, if the gate lets it be made.
+/// The answer to a request, from the copy that is shown, if the gate lets it be made.
 pub fn answer<A: Cells, G: Gate>(
     handle: JoinedHandle<A>,
     alloc: Global,
@@ -62,12 +62,11 @@ pub fn answer<A: Cells, G: Gate>(
     }
 }
 
-/// Of how many cells a key has to have in the mean for a replica to be copied before it is
-/// compared.
+/// How many cells keys must have on average for a replica to be copied before it is compared.
 const CELLS_OF_A_KEY: usize = 8;
 
-/// A copy of a replica, if there is memory for it and it is made in less time than the comparison
-/// of all cells takes: packed archives share their finished blocks with it.
+/// A copy of a replica, if there is memory for it and it takes less time than comparing all cells:
+/// packed archives share their finished blocks with it.
 fn quick_copy<A: Cells>(alloc: Global, replica: &Replica<A>) -> Option<Replica<A>>
     ensures { IfSome result (λ copy. replica_state copy ≡ replica_state replica.now) }
 {
@@ -77,8 +76,8 @@ fn quick_copy<A: Cells>(alloc: Global, replica: &Replica<A>) -> Option<Replica<A
     replica.copy(alloc).ok()
 }
 
-/// The cells of the shown copy that a summary lacks. Where a further copy of it is cheap, that one
-/// is compared, so that the keeper doesn't wait for the comparison.
+/// The cells of the shown copy that a summary lacks. If a further copy of it is cheap, that one is
+/// compared, so that the keeper doesn't wait for the comparison.
 pub fn lacking<A: Cells>(
     handle: JoinedHandle<A>,
     alloc: Global,
@@ -106,7 +105,7 @@ pub fn lacking<A: Cells>(
     }
 }
 
-/// The next cells of the copy that is shown, after one or from the first on, as many as `limit`.
+/// The next `limit` cells of the copy that is shown, after one or from the first on.
 pub fn walked<A: Cells>(
     handle: JoinedHandle<A>,
     alloc: Global,
@@ -128,7 +127,7 @@ pub fn walked<A: Cells>(
     }
 }
 
-/// The keys behind one that have a cell in the copy that is shown, as many as `count`.
+/// The next `count` keys after one that have a cell in the copy that is shown.
 pub fn listed<A: Cells>(
     handle: JoinedHandle<A>,
     alloc: Global,

@@ -1,8 +1,8 @@
 //! The book of a desk: what each edition adds. Only the number of editions is in memory.
 //!
 //! An edition is what one publication adds. [`Editions`], which the keeper owns, counts them in one
-//! word; a [`Prefix`] is a beginning of the book that was seen. It may go to any thread, and two of
-//! them can be compared: of two beginnings of one list the shorter begins the longer.
+//! word; a [`Prefix`] is the book as far as it was seen. It may go to any thread, and two of them
+//! can be compared: of two prefixes of one list, the longer begins with the shorter.
 ghost use Rattle.std.specs.Prelude.{◌≡◌, [], ◌∷◌, ◌++◌, length, nat_le, IsTrue, IfOk, OnErr, OnOk};
 ghost use mathlib.Core.List.{IsPrefix};
 ghost use Rattle.rr_desk.specs.Editions.{head_of};
@@ -44,7 +44,7 @@ impl Gain<LinkedList<Op>, u64> for Nothing {
     ghost after = { λ names about answer. ftrue };
 }
 
-/// Which operations a step is about. No value of it is made: each call picks them in its proof.
+/// Which operations a step is about. Never constructed: each call picks them in its proof.
 pub trait Batch {
     ghost use Rattle.std.specs.Prelude.{List};
     ghost use Rattle.rr_cells.specs.declared.op.Op.{Op};
@@ -77,7 +77,7 @@ impl<K: Batch> Plain<(), LinkedList<Op>, u64> for Adds<K> {
     ghost state = { λ _. None };
 }
 
-/// Which desk it is, by its book. No value of it is made.
+/// Which desk it is, by its book. Never constructed.
 pub struct DeskName {
     number: u64,
     log_name: u64,
@@ -94,7 +94,7 @@ impl Model for DeskName {
     ghost view = { λ d. record { number = d.number; log_name = d.log_name; cells_name = d.cells_name } };
 }
 
-/// A beginning of a desk's book, as far as it was seen. It takes eight bytes.
+/// A prefix of a desk's book, as far as it was seen. It takes eight bytes.
 #[derive(Drop)]
 pub struct Prefix {
     count: u64,
@@ -113,7 +113,7 @@ impl Model for Prefix {
 }
 
 impl Prefix {
-    /// The same beginning once more, without memory.
+    /// The same prefix again, without memory.
     pub fn again(&self) -> Prefix
         ensures { result ≡ self.now }
     {
@@ -123,7 +123,7 @@ impl Prefix {
         }
     }
 
-    /// Whether another prefix of the same book begins with this one, as it does where it isn't
+    /// Whether another prefix of the same book begins with this one, as it does unless it is
     /// shorter.
     pub fn begins(&self, other: &Prefix) -> bool
         requires { self.now.desk ≡ other.now.desk }
@@ -135,8 +135,8 @@ impl Prefix {
         self.count <= other.count
     }
 
-    /// This prefix and an edition more, which the word counts too. Refused where the word has
-    /// counted another one, or can count no more.
+    /// This prefix and one more edition, which the word counts too. Refused if the word has counted
+    /// another one, or can count no more.
     fn next<K: Batch>(&self, head: &Word<LinkedList<Op>, u64, Law>) -> Result<Prefix, AllocError>
         requires { head.now ≡ head_of self.now.desk }
         ensures { IfOk result (λ f.
@@ -164,7 +164,7 @@ impl Prefix {
     }
 }
 
-/// The book in its keeper's hands, with all editions that it has.
+/// The book as its keeper holds it, with all its editions.
 #[derive(Drop)]
 pub struct Editions {
     head: Word<LinkedList<Op>, u64, Law>,
@@ -201,8 +201,8 @@ impl Editions {
         self.prefix.again()
     }
 
-    /// Adds an edition. It could be refused only where another keeper had added one to this book,
-    /// or where 2^64 - 1 have been added.
+    /// Adds an edition. It could be refused only if another keeper had added one to this book, or
+    /// if 2^64 - 1 have been added.
     pub fn add<K: Batch>(&mut self) -> Result<(), AllocError>
         ensures state { Becomes self.old
             (record { desk = self.old.desk; editions = self.old.editions ++ K.batch ∷ [] })

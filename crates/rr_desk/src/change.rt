@@ -1,17 +1,17 @@
-//! What both copies take in.
+//! What both copies absorb.
 
 use crate::book::Prefix;
 use rr_cells::{Cell, Op, Sample};
 use rr_key::SeriesKey;
 use std::alloc::{AllocError, Global};
 
-/// A sample as it waits for the copies. Its series is told by the number of that, and its origin is
-/// that of the replica: so it takes no memory for its key.
+/// A sample as it waits for the copies. It names its series by number, and its origin is the
+/// replica's: so it takes no memory for its key.
 #[derive(Clone, Copy)]
 pub struct NumberedSample {
-    /// The number of its series, which are counted from 0 in the order in which their keys came.
+    /// The number of its series, counted from 0 in the order in which keys came.
     pub series: usize,
-    /// Under which number it is put.
+    /// The number under which it is put.
     pub number: u64,
     /// The time, in nanoseconds since the Unix epoch.
     pub time: i64,
@@ -20,7 +20,7 @@ pub struct NumberedSample {
 }
 
 /// A cell as it waits for the copies. Most operations are samples, and a cell is many times as
-/// large as a sample: so that no sample takes the memory of one, cells are elsewhere.
+/// large: it is boxed so that no sample takes the memory of a cell.
 #[derive(Drop)]
 pub struct NumberedCell {
     /// The number of its series.
@@ -29,7 +29,7 @@ pub struct NumberedCell {
     pub cell: Box<Cell>,
 }
 
-/// What both copies take in.
+/// What both copies absorb.
 #[derive(Drop)]
 pub enum Change {
     /// A sample of the replica's own origin is put.
@@ -47,7 +47,7 @@ impl Change {
     ghost use Rattle.rr_cells.specs.declared.op.Op.TheVariants as op;
     ghost use Rattle.rr_desk.specs.Changes.{IsChangeOf};
 
-    /// The change that puts a sample of the series with a number.
+    /// The change that puts a sample of the series with this number.
     fn of_sample(series: usize, sample: &Sample) -> Change
         ensures { IsChangeOf series (op.Put sample.now) result }
     {
@@ -59,7 +59,7 @@ impl Change {
         })
     }
 
-    /// The change that joins a cell of the series with a number. Memory is taken for it.
+    /// The change that joins a cell of the series with this number. Takes memory for it.
     fn join(alloc: Global, series: usize, cell: &Cell) -> Result<Change, AllocError>
         ensures { IfOk result (IsChangeOf series (op.Join cell.now)) }
     {
@@ -67,7 +67,7 @@ impl Change {
         Ok(Change::Join(NumberedCell { series, cell }))
     }
 
-    /// The change that is an operation of the series with a number.
+    /// The change that is an operation on the series with this number.
     pub fn of(alloc: Global, series: usize, op: &Op) -> Result<Change, AllocError>
         ensures { IfOk result (IsChangeOf series op.now) }
     {

@@ -30,7 +30,7 @@ use std::alloc::{AllocError, Global};
 use std::marker::Model;
 use std::sync::Wait;
 
-/// Whether an operation may change cells of a replica: joining a cell that is held already doesn't.
+/// Whether an operation may change cells of a replica: joining a cell that is already held doesn't.
 fn may_change<A: Cells>(replica: &Replica<A>, op: &Op) -> bool
     requires { accepts (replica_state replica.now) op.now ≡ true }
     ensures { result ≡ may_change replica.now.cells op.now }
@@ -41,10 +41,10 @@ fn may_change<A: Cells>(replica: &Replica<A>, op: &Op) -> bool
     }
 }
 
-/// A keeper's replica, with all operations, published or pending, and the two copies that readers
-/// read in turn, with what is published.
+/// A keeper's replica, with all operations, published or pending, and the two copies shown to
+/// readers in turn, with what is published.
 ///
-/// It is not `Drop`: it ends by [`Copies::close`].
+/// It is not `Drop`: it ends with [`Copies::close`].
 pub struct Copies<A: Cells>
 where
     Shown<A>: Absorb<Change, State = CopyState>,
@@ -53,7 +53,7 @@ where
     writer: DeskWriter<A>,
     own: Replica<A>,
     book: Editions,
-    /// How many of the keeper's keys the copies have after the pending changes: the first ones.
+    /// How many of the keeper's keys, from the first on, the copies have after the pending changes.
     named: usize,
     /// What isn't written yet.
     unwritten: Unwritten,
@@ -96,7 +96,7 @@ where
 }
 
 impl<A: Cells> Copies<A> {
-    /// A replica beside its two copies, which are opened, with their book.
+    /// A replica beside its two opened copies, with their book.
     pub fn new(alloc: Global, writer: DeskWriter<A>, own: Replica<A>, book: Editions) -> Copies<A>
         requires holds { IsReplicaState (replica_state own) }
         requires view { view writer.desk.place ≡ keeper_of (replica_state own) book.desk }
@@ -131,11 +131,11 @@ impl<A: Cells> Copies<A> {
         &self.own
     }
 
-    /// Makes an operation pending that the replica takes, and applies it there. Room is
-    /// made first, so that it is taken whole or not at all.
+    /// Makes pending an operation that the replica takes, and applies it there. Room is made first,
+    /// so that it is taken whole or not at all.
     ///
-    /// Before some operations finished rows of the series at the hint are shared with the copy that
-    /// is shown.
+    /// Before some operations, finished rows of the series at the hint are shared with the copy
+    /// that is shown.
     #[inline(always)]
     pub fn push(&mut self, hint: Hint, op: Op) -> Result<(), AllocError>
         requires { accepts (own_replica self.old) op ≡ true }
@@ -183,16 +183,15 @@ impl<A: Cells> Copies<A> {
         self.unwritten.tracker.series(alloc, &self.own)
     }
 
-    /// Takes all operations as written.
+    /// Marks all operations as written.
     pub fn changes_written(&mut self)
         ensures { self.new ≡ with_all_written self.old }
     {
         self.unwritten.clear();
     }
 
-    /// Shows readers all pending operations, at one step. It waits for readers that are still in
-    /// the copy that is not shown. Where it is refused, nothing has changed, and readers see what
-    /// they saw.
+    /// Shows readers all pending operations in one step. It waits for readers still in the copy
+    /// that is not shown. If it is refused, nothing has changed, and readers see what they saw.
     ///
     /// The cost is that of applying the operations to each copy once, however large the replica is.
     pub fn publish<R: Wait>(&mut self, rt: &R) -> Result<(), AllocError>
@@ -213,7 +212,7 @@ impl<A: Cells> Copies<A> {
         self.writer.published().prefix.again()
     }
 
-    /// Gives the replica. It waits for readers that are in a copy; after it no reader enters.
+    /// Returns the replica. It waits for readers in a copy; after it no reader enters.
     pub fn close<R: Wait>(self, rt: &R) -> Replica<A>
         ensures { replica_state result ≡ own_replica self }
     {

@@ -8,7 +8,7 @@ use thiserror::Error;
 /// Why a desk is not opened.
 #[derive(Clone, Copy, Debug, PartialEq, Eq, Error)]
 pub enum OpenFault {
-    /// There are not from 1 to 16 readers.
+    /// The number of readers isn't from 1 to 16.
     BadCount,
     /// Memory ran out.
     Memory,
@@ -40,7 +40,7 @@ impl fmt::Display for OpenFault {
 /// Why a fetch is not answered.
 #[derive(Clone, Copy, Debug, PartialEq, Eq, Error)]
 pub enum FetchFault {
-    /// The gate answered that no answer may be made.
+    /// The gate said that no answer may be made.
     GateShut,
     /// Memory ran out, or the keeper has closed.
     Memory,

@@ -3,15 +3,15 @@
 /// A call of a gate.
 #[derive(Clone, Copy, Debug, PartialEq, Eq)]
 pub enum GateCall {
-    /// Whether an answer may be made; it answered so.
+    /// It was asked whether an answer may be made, and returned this.
     Before(bool),
-    /// It was told that the answer is made.
+    /// It was told that the answer was made.
     After,
 }
 
-/// Whoever decides whether an answer is made.
+/// Decides whether an answer is made.
 ///
-/// It is seen as the list of its calls, where that is known.
+/// Contracts see it as the list of its calls, where that is known.
 pub trait Gate {
     ghost use Rattle.std.specs.Prelude.{true, List, [], ◌∷◌, Option};
     ghost use Rattle.rr_desk.specs.Gate.{WasAsked, WasAskedLast};
@@ -20,11 +20,11 @@ pub trait Gate {
 
     ghost calls: { Self → Option (List GateCall) };
 
-    /// Called while the reader holds its copy: whether the answer may be made.
+    /// Whether the answer may be made. Called while the reader holds its copy.
     fn before(&mut self) -> bool
         ensures { WasAsked (calls self.old) (calls self.new) (Before result ∷ []) };
 
-    /// Called when the answer is made, which it is only where `before` answered true.
+    /// Called when the answer was made, which happens only if `before` returned true.
     fn after(&mut self)
         requires { WasAskedLast (calls self.old) (Before true) }
         ensures { WasAsked (calls self.old) (calls self.new) (After ∷ []) };

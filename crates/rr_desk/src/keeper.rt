@@ -1,4 +1,4 @@
-//! The keeper of a desk, which alone writes.
+//! The keeper of a desk, its only writer.
 ghost use Rattle.std.specs.Prelude.{◌≡◌, ◌<◌, ◌↔◌, Err, IfOk, map, take, drop, vec_len};
 ghost use Rattle.std.specs.FinMap.{entries, len};
 ghost use Rattle.std.specs.Io.KnownBytes.{Keeps};
@@ -48,14 +48,14 @@ use std::sync::Wait;
 
 /// The keeper of a desk. It has a replica of its own, with all operations, published or pending.
 ///
-/// It is not `Drop`: it ends by [`Keeper::close`].
+/// It is not `Drop`: it ends with [`Keeper::close`].
 pub struct Keeper<A: Cells>
 where
     Shown<A>: Absorb<Change, State = CopyState>,
 {
     pub(crate) alloc: Global,
     pub(crate) copies: Copies<A>,
-    /// Where key texts of points are written, one over the other.
+    /// Where key texts of points are written, each over the last.
     pub(crate) text: Vec<u8>,
     pub(crate) order: Order,
     /// How many samples no archive kept.
@@ -86,8 +86,8 @@ impl<A: Cells> Keeper<A> {
         self.copies.replica().schema()
     }
 
-    /// How many cells all operations make, pending ones too; the greatest value of the type, where
-    /// it can't hold that many. The cost is linear in the series.
+    /// How many cells all operations make, pending ones too. It saturates. The cost is linear in
+    /// the series.
     pub fn cell_count(&self) -> usize
         ensures { result ≡ at_most_usize (len (cells_of self.now)) }
     {
@@ -101,14 +101,14 @@ impl<A: Cells> Keeper<A> {
         self.copies.replica().next_number()
     }
 
-    /// Puts a sample of a key under the next number, which is the answer. The time is in
-    /// nanoseconds since the Unix epoch. Readers don't see the sample before it is published.
+    /// Puts a sample of a key under the next number, and returns that. The time is in nanoseconds
+    /// since the Unix epoch. Readers don't see the sample until it is published.
     ///
-    /// Refused as `NumbersSpent` where the next number is past 2^40. After a refusal nothing has
+    /// Refused as `NumbersSpent` if the next number is past 2^40. After a refusal nothing has
     /// changed. The cost is that of `Replica::put`, once here and once in each copy when it is
-    /// published, where the key is mostly found without a look-up, and here too if series come in
-    /// the order in which they came before. Where the row is in memory only the list of pending
-    /// operations grows.
+    /// published; there the key is mostly found without a lookup, and here too if series come in
+    /// the same order as before. If the row is in memory, only the list of pending operations
+    /// grows.
     pub fn put(&mut self, key: &SeriesKey, time: i64, value: i64) -> Result<u64, PutFault>
         ensures { PutsNext self.old.next self.old (with_put self.old key.now time value) self.new
             result }
@@ -123,8 +123,8 @@ impl<A: Cells> Keeper<A> {
         self.push_sample(hint, key, time, value)
     }
 
-    /// Puts a sample of a key as [`Keeper::put`] does, with a hint where its series is. The
-    /// operation takes the key over.
+    /// Puts a sample of a key as [`Keeper::put`] does, with a hint of where its series is. The
+    /// operation takes over the key.
     #[inline(always)]
     pub(crate) fn push_sample(
         &mut self,
@@ -154,29 +154,28 @@ impl<A: Cells> Keeper<A> {
         Ok(number)
     }
 
-    /// Whether a sample of a key at a time would be kept by some archive, as `Replica::keeps` says.
+    /// Whether some archive would keep a sample of a key at a time, as `Replica::keeps` says.
     pub fn keeps(&self, key: &SeriesKey, time: i64) -> bool
         ensures { result ≡ keeps self.now.schema (cells_of self.now) key.now time }
     {
         self.copies.replica().keeps(key, time)
     }
 
-    /// How many samples were put since the desk was opened of which [`Keeper::keeps`] was false
-    /// then: they left no trace but their numbers. The greatest value of the type, if there were
-    /// more.
+    /// How many samples were put since the desk was opened for which [`Keeper::keeps`] was false at
+    /// the time: they left no trace but their numbers. It saturates.
     pub fn past_horizon(&self) -> u64
         ensures { result ≡ past_horizon_of self.now }
     {
         self.past
     }
 
-    /// Where the series is that is likely to be put to next: the one that came after the last one
-    /// the time before. No contract says which it is.
+    /// A hint at the series likely to be put to next: the one that came after the last one the time
+    /// before. No contract says which it is.
     pub fn likely_next(&self) -> Hint {
         self.order.next()
     }
 
-    /// Where the series is that is likely to be put to after one, in the same way.
+    /// A hint at the series likely to be put to after this one, in the same way.
     pub fn likely_after(&self, hint: Hint) -> Hint {
         self.order.next_after(hint)
     }
@@ -187,7 +186,7 @@ impl<A: Cells> Keeper<A> {
     }
 
     /// Joins a cell from elsewhere, which is valid under the schema, as `Replica::join_cell` does.
-    /// Readers don't see it before it is published. After an error nothing has changed. The cost is
+    /// Readers don't see it until it is published. After an error nothing has changed. The cost is
     /// that of `Replica::join_cell`, once here and once in each copy when it is published.
     pub fn join_cell(&mut self, cell: &Cell) -> Result<(), AllocError>
         requires { IsCellOf self.old.schema (owned_cell cell.now) }
@@ -201,9 +200,9 @@ impl<A: Cells> Keeper<A> {
         Ok(())
     }
 
-    /// The names and versions of as many cells as `count` from an offset on, in the order of the
-    /// names; fewer where there are fewer. They are those of all operations, pending ones too. The
-    /// cost is that of [`rr_delta::summary`].
+    /// The names and versions of `count` cells from an offset on, in the order of the names; fewer
+    /// if there are fewer. They are those of all operations, pending ones too. The cost is that of
+    /// [`rr_delta::summary`].
     pub fn names(&self, alloc: Global, from: usize, count: usize) -> Result<Vec<Name>, AllocError>
         ensures { ListsNames self.now.schema
             (take count (drop from (versions_of (cells_of self.now)))) result }
@@ -211,8 +210,8 @@ impl<A: Cells> Keeper<A> {
         summary(alloc, self.copies.replica(), from, count)
     }
 
-    /// The names and versions of as many cells as `count` after a name, or of the first ones where
-    /// there is none, in the order of the names; fewer where there are fewer. The cost is that of
+    /// The names and versions of `count` cells after a name, or of the first ones if there is none,
+    /// in the order of the names; fewer if there are fewer. The cost is that of
     /// [`rr_delta::summary_after`].
     pub fn names_after(
         &self,
@@ -227,8 +226,8 @@ impl<A: Cells> Keeper<A> {
         summary_after(alloc, self.copies.replica(), after, count)
     }
 
-    /// Writes the cells of all operations, pending ones too, as a snapshot: see
-    /// `rr_snapshot::save`, whose refusals and cost it has.
+    /// Writes the cells of all operations, pending ones too, as a snapshot, with the refusals and
+    /// the cost of `rr_snapshot::save`.
     pub fn save<W: Write>(&self, alloc: Global, output: &mut Counted<W>) -> Result<(), SaveFault>
         ensures saves { Saves W.contents output.old output.new
             (snapshot_text latest self.now.schema self.now.origin (entries (cells_of self.now)))
@@ -241,12 +240,12 @@ impl<A: Cells> Keeper<A> {
         rr_snapshot::save(alloc, self.copies.replica(), output)
     }
 
-    /// The series that have changed since what is written, each with the ranges of times in which it
-    /// did, in the order of their keys: [`Keeper::changes`] gives their cells. A series of which
-    /// cells were joined that were held already hasn't changed.
+    /// The series that have changed since what is written, each with the ranges of times in which
+    /// it did, in the order of their keys: [`Keeper::changes`] gives their cells. Joining cells
+    /// that are already held doesn't change a series.
     ///
-    /// What is written is all that a desk is opened with, and what [`Keeper::changes_written`] was
-    /// called for. The cost is linear in the series that changed, times their logarithm.
+    /// What is written is all that the desk was opened with, and what [`Keeper::changes_written`]
+    /// was called for. The cost is n log n in the number of series that changed.
     pub fn changed_series(&self, alloc: Global) -> Result<Vec<ChangedSeries>, AllocError>
         ensures ascending { IfOk result (λ series. AreInOrder series.items) }
         ensures changes { IfOk result (λ series. CoverChanges self.now series.items) }
@@ -254,9 +253,9 @@ impl<A: Cells> Keeper<A> {
         self.copies.changed_series(alloc)
     }
 
-    /// The next changes: of the live cells of these series, in the slots of their ranges, those that
-    /// come first after a cell in the order of names, or first of all; as many as `limit`, and fewer
-    /// only where there are no more. They are those of all operations, pending ones too. The keys of
+    /// The next changes: of the live cells of these series, in the slots of their ranges, the first
+    /// ones after a cell in the order of names, or the first of all; as many as `limit`, and fewer
+    /// only if there are no more. They are those of all operations, pending ones too. The keys of
     /// the series strictly ascend. The cost is that of [`rr_changes::next_changes`].
     pub fn changes(
         &self,
@@ -275,17 +274,16 @@ impl<A: Cells> Keeper<A> {
         next_changes(alloc, self.copies.replica(), series, after, limit)
     }
 
-    /// Says that the changes are written: whoever has what was written holds what the keeper holds.
-    /// The cost is linear in the series that changed.
+    /// Marks the changes as written: whoever has what was written holds what the keeper holds. The
+    /// cost is linear in the series that changed.
     pub fn changes_written(&mut self)
         ensures { self.new ≡ with_all_written self.old }
     {
         self.copies.changes_written();
     }
 
-    /// Shows readers all pending operations, at one step. It waits for readers that are still in
-    /// the copy that is not shown. Where it is refused, nothing has changed, and readers see what
-    /// they saw.
+    /// Shows readers all pending operations in one step. It waits for readers still in the copy
+    /// that is not shown. If it is refused, nothing has changed, and readers see what they saw.
     ///
     /// The cost is that of applying the operations to each copy once, however large the replica is.
     pub fn publish<R: Wait>(&mut self, rt: &R) -> Result<(), AllocError>
@@ -303,8 +301,8 @@ impl<A: Cells> Keeper<A> {
         }
     }
 
-    /// Gives the keeper's own replica. It waits for readers that are in a copy; after it no reader
-    /// enters, and each of its calls answers `Memory`.
+    /// Returns the keeper's own replica. It waits for readers in a copy; after it no reader enters,
+    /// and each call of a reader is refused as `Memory`.
     pub fn close<R: Wait>(self, rt: &R) -> Replica<A>
         ensures { replica_state result ≡ own_replica self }
     {

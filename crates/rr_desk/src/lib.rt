@@ -1,10 +1,10 @@
 //! A desk: one keeper that writes, and readers on threads of their own that answer without waiting.
 //!
-//! [`open`] makes a desk of a replica. The [`Keeper`] has a replica of its own, to which it puts
-//! samples and joins cells; each is an operation, which is pending until [`Keeper::publish`] shows
-//! all of them to the readers at one step. A [`Reader`] answers from one of two copies of the
-//! replica, which hold what was published; it never waits for the keeper, nor the keeper's writes
-//! for it. To answer a fetch it may ask a [`Gate`] first. A [`Note`] tells a reader what was
+//! [`open`] makes a desk of a replica. The [`Keeper`] has a replica of its own, into which it puts
+//! samples and joins cells; each is an operation, pending until [`Keeper::publish`] shows all of
+//! them to the readers in one step. A [`Reader`] answers from one of two copies of the replica,
+//! which hold what was published; it never waits for the keeper, nor do the keeper's writes wait
+//! for it. It may ask a [`Gate`] before it answers a fetch. A [`Note`] tells a reader what was
 //! published.
 //!
 //! ```text
@@ -12,13 +12,13 @@
 //! ```
 //!
 //! Below these are the copies (`copies.rt`, `read_handle.rt`): the keeper's replica beside the two
-//! that readers read in turn. To publish is to end an edition in the book and to swap the copies.
+//! copies shown to readers in turn. Publishing ends an edition in the book and swaps the copies.
 //!
-//! In `specs/` a keeper stands for two lists of operations, the published and the pending ones
-//! (`KeeperState.antt`), a reader for the list that it has seen (`ReaderState.antt`). What a reader
-//! answers is made of the cells after its list. All lists of one desk, seen, told or published, are
-//! beginnings of one list: that is the rule of the copies (`Rule.antt`), which every step keeps. No
-//! list is in memory. The book of editions (`Editions.antt`), of which code keeps the number alone,
+//! In `specs/`, a keeper stands for two lists of operations, the published and the pending ones
+//! (`KeeperState.antt`), and a reader for the list it has seen (`ReaderState.antt`). A reader
+//! answers from the cells that its list makes. All lists of one desk, seen, told or published, are
+//! prefixes of one list: that is the rule of the copies (`Rule.antt`), which every step keeps. No
+//! list is in memory. The book of editions (`Editions.antt`), of which code keeps only the count,
 //! says whether a copy has what a note is of.
 #![tactic(auto)]
 

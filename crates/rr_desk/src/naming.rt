@@ -1,4 +1,4 @@
-//! Keys that the copies lack, which they get before operations on their series.
+//! Keys that the copies lack, added before operations on their series.
 ghost use Rattle.std.specs.Prelude.{◌≤◌, length, OnOk};
 ghost use Rattle.rr_desk.specs.Changes.{AreNamed};
 ghost use Rattle.rr_desk.specs.Writers.{changes, shown_names, AddsKeys};
@@ -9,8 +9,8 @@ use rr_archive::Cells;
 use rr_replica::Replica;
 use std::alloc::AllocError;
 
-/// Adds to the pending changes the keeper's keys that the copies will lack: it is at most one,
-/// unless memory ran out before. `named` says how many they will have.
+/// Adds to the pending changes the keeper's keys that the copies will lack: at most one, unless
+/// memory ran out before. `named` says how many they will have.
 #[inline(always)]
 pub fn name_keys<A: Cells>(
     writer: &mut DeskWriter<A>,

@@ -50,7 +50,7 @@ fn joined_reader<A: Cells>(
     }
 }
 
-/// As many readers.
+/// `readers` such readers.
 fn joined_readers<A: Cells>(
     writer: &mut DeskWriter<A>,
     alloc: Global,
@@ -70,7 +70,7 @@ fn joined_readers<A: Cells>(
     Ok(all)
 }
 
-/// The two copies of a replica with all that a keeper needs besides, and their readers.
+/// The two copies of a replica with all else that a keeper needs, and their readers.
 fn begin<A: Cells, R: Wait>(
     alloc: Global,
     rt: &R,
@@ -94,11 +94,11 @@ fn begin<A: Cells, R: Wait>(
     }
 }
 
-/// Opens a desk of a replica, with from 1 to 16 readers. The keeper has the replica, and each
-/// reader has seen one join for each of its cells.
+/// Opens a desk of a replica, with 1 to 16 readers. The keeper has the replica, and each reader has
+/// seen one join for each of its cells.
 ///
-/// Refused as `BadCount` for another number of readers, and as `Memory`; a refusal hands the
-/// replica back unchanged. The cost is that of copying the replica twice.
+/// Refused as `BadCount` for any other number of readers, or as `Memory`; a refusal hands back the
+/// replica unchanged. The cost is that of copying the replica twice.
 pub fn open<A: Cells, R: Wait>(
     alloc: Global,
     rt: &R,
@@ -117,7 +117,7 @@ pub fn open<A: Cells, R: Wait>(
         return Err((OpenFault::BadCount, replica));
     }
     let readers = ReaderCount { value: readers };
-    // The proof needs what the replica keeps to, which `schema` ensures.
+    // The proof needs the replica's invariant, which `schema` ensures.
     let _schema = replica.schema();
     match begin(alloc, rt, &replica, readers) {
         Ok((writer, book, all)) => {

@@ -3,10 +3,9 @@
 use rr_replica::Hint;
 use std::alloc::Global;
 
-/// For each series, the one that came after it the last time: whoever sends samples mostly sends
-/// them in one order.
+/// For each series, the one that came after it last time: senders mostly keep to one order.
 ///
-/// These are hints, on which no answer depends. A series that memory is refused for has no
+/// These are hints, on which no answer depends. A series for which memory is refused has no
 /// successor.
 #[derive(Drop)]
 pub(crate) struct Order {
@@ -15,7 +14,7 @@ pub(crate) struct Order {
 }
 
 impl Order {
-    /// No series came yet. Takes no memory.
+    /// No series has come yet. Takes no memory.
     pub(crate) fn new(alloc: Global) -> Order {
         Order {
             after: Vec::new(alloc),
@@ -23,12 +22,12 @@ impl Order {
         }
     }
 
-    /// Where the series is that is likely to come next.
+    /// A hint at the series likely to come next.
     pub(crate) fn next(&self) -> Hint {
         self.next_after(self.last)
     }
 
-    /// Where the series is that is likely to come after one.
+    /// A hint at the series likely to come after this one.
     pub(crate) fn next_after(&self, hint: Hint) -> Hint {
         match self.after.get(hint.index()) {
             Some(hint) => *hint,
@@ -45,7 +44,7 @@ impl Order {
         self.last = hint;
     }
 
-    /// Makes a place for what comes after the series with an index.
+    /// Makes a place for what comes after the series with this index.
     fn make_place(&mut self, index: usize) {
         let Some(len) = index.checked_add(1) else {
             return;

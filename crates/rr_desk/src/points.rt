@@ -37,14 +37,14 @@ impl<A: Cells> Keeper<A> {
     ghost use Rattle.rr_replica.specs.Writing.{is_ahead, lacks_numbers, WritesPoint};
     ghost use Rattle.rr_desk.specs.Points.{with_put};
 
-    /// Puts a sample of each field of a point, in the line's order, under as many numbers, and
-    /// answers how many. A point without a time takes `now`. Times are in nanoseconds since the
-    /// Unix epoch, the lead too. Readers don't see the samples before they are published.
+    /// Puts a sample of each field of a point, in the line's order, each under the next number, and
+    /// returns how many. A point without a time takes `now`. Times are in nanoseconds since the
+    /// Unix epoch, the lead in nanoseconds. Readers don't see the samples until they are published.
     ///
-    /// Refused as `AheadOfClock` where the point's own time is greater than `now + lead`, and as
-    /// `NumbersSpent` where fewer numbers are left than the point has fields; nothing has then
-    /// changed. Where memory runs out, `Memory` says how many fields, from the first on, were put.
-    /// The cost is that of writing the keys and of the puts.
+    /// Refused as `AheadOfClock` if the point's own time is greater than `now + lead`, and as
+    /// `NumbersSpent` if fewer numbers are left than the point has fields; nothing has then
+    /// changed. If memory runs out, `Memory` says how many fields, from the first on, were put. The
+    /// cost is that of writing the keys and of the puts.
     pub fn write(
         &mut self,
         point: &Point<'_>,
@@ -62,12 +62,12 @@ impl<A: Cells> Keeper<A> {
         written
     }
 
-    /// Puts a sample of a key, as [`Keeper::write`] puts that of a point whose one field has this
+    /// Puts a sample of a key, as [`Keeper::write`] puts that of a point whose only field has this
     /// key.
     ///
-    /// The hint says where its series is, and the operation takes the key over. Refused as
-    /// `AheadOfClock`, as `NumbersSpent` and as `Memory` as there; nothing has then changed. The
-    /// cost is that of the put.
+    /// The hint says where its series is, and the operation takes over the key. Refused as
+    /// `AheadOfClock`, `NumbersSpent` or `Memory`, as there; nothing has then changed. The cost is
+    /// that of the put.
     pub fn write_sample(
         &mut self,
         hint: Hint,

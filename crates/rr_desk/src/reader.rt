@@ -27,8 +27,8 @@ use rr_schema::Schema;
 use std::alloc::{AllocError, Global};
 use std::marker::Model;
 
-/// A reader of a desk. It answers from what the keeper has published, on any thread, and waits for
-/// nobody.
+/// A reader of a desk. It answers from what the keeper has published, on any thread, and never
+/// waits.
 #[derive(Drop)]
 pub struct Reader<A: Cells> {
     pub(crate) schema: Schema,
@@ -78,7 +78,7 @@ impl<A: Cells> Reader<A> {
         &self.schema
     }
 
-    /// Takes in a note of the same desk. What the reader has seen then begins with what the note is
+    /// Learns a note of the same desk. What the reader has seen then begins with what the note is
     /// of, and with what it had seen before.
     pub fn learn(&mut self, note: Note) -> Result<(), AllocError>
         requires { note.desk ≡ self.old.desk }
@@ -93,8 +93,8 @@ impl<A: Cells> Reader<A> {
         learned
     }
 
-    /// The answer to a request after the operations that the reader has seen when the call returns.
-    /// They begin with those that it had seen before, also where no answer is made. The cost is
+    /// The answer to a request, as of the operations that the reader has seen when the call
+    /// returns. They begin with those it had seen before, even if no answer is made. The cost is
     /// that of [`rr_fetch::answer_text`], here and through a gate.
     pub fn fetch(&mut self, alloc: Global, request: &Request) -> Result<Vec<u8>, AllocError>
         requires { IsFetchable self.old.schema (request_view request.now) }
@@ -108,8 +108,9 @@ impl<A: Cells> Reader<A> {
         }
     }
 
-    /// The same through a gate, which is asked while the copy is held. The answer is made where
-    /// `before` is true, and then `after` is called; where it is false, the answer is `GateShut`.
+    /// The same through a gate, which is asked while the copy is held. If `before` is true, the
+    /// answer is made and then `after` is called; if it is false, the call is refused as
+    /// `GateShut`.
     pub fn fetch_through<G: Gate>(
         &mut self,
         alloc: Global,
@@ -130,9 +131,9 @@ impl<A: Cells> Reader<A> {
     }
 
     /// The cells whose name a summary lacks, or has with a smaller version, in the order of their
-    /// names, after the operations that the reader has seen when the call returns. The names of the
+    /// names, as of the operations that the reader has seen when the call returns. The names of the
     /// summary strictly ascend. The cost is that of [`rr_delta::difference`]; the keeper may wait
-    /// for it only where keys have less than eight cells in the mean, or memory is short.
+    /// for it only if keys have fewer than eight cells on average, or memory is short.
     pub fn difference(&mut self, alloc: Global, summary: &[Name]) -> Result<Vec<Cell>, AllocError>
         requires { IsSummary (map owned_name summary.now) }
         ensures { AnswersSeen self.old self.new (ListsCells self.new.schema
@@ -146,11 +147,11 @@ impl<A: Cells> Reader<A> {
         cells
     }
 
-    /// The next cells: those that come first after a cell in the order of names, or first of all; as
-    /// many as `limit`, and fewer only where there are no more. They are those after the operations
-    /// that the reader has seen when the call returns. So a checkpoint is written from one call to
-    /// the next, each after the last cell of the one before, while the keeper goes on: the cost is
-    /// that of [`rr_changes::next_cells`], for which alone the keeper may wait.
+    /// The next cells: the first ones after a cell in the order of names, or the first of all; as
+    /// many as `limit`, and fewer only if there are no more. They are as of the operations that the
+    /// reader has seen when the call returns. So a checkpoint is written call by call, each after
+    /// the last cell of the one before, while the keeper goes on: the cost is that of
+    /// [`rr_changes::next_cells`], and the keeper may wait only for that.
     pub fn cells_after(
         &mut self,
         alloc: Global,
@@ -168,10 +169,9 @@ impl<A: Cells> Reader<A> {
         cells
     }
 
-    /// As many keys as `count` that have a cell, in order, from the first one behind a key on, or
-    /// from the first of all; fewer where there are fewer. They are those after the operations that
-    /// the reader has seen when the call returns. The cost is that of
-    /// [`rr_replica::Replica::keys_after`].
+    /// The next `count` keys that have a cell, in order, from the first one after a key on, or from
+    /// the first of all; fewer if there are fewer. They are as of the operations that the reader
+    /// has seen when the call returns. The cost is that of [`rr_replica::Replica::keys_after`].
     pub fn keys_after(
         &mut self,
         alloc: Global,

@@ -10,7 +10,7 @@ use rr_schema::Schema;
 use std::collections::LinkedList;
 use std::marker::PhantomData;
 
-/// What a handle knows, be it the keeper's or a reader's. No value of it is made.
+/// What a handle knows, whether the keeper's or a reader's. Never constructed.
 pub struct View {
     /// It is the keeper's: nothing is published that it has not seen.
     pub writes: bool,
@@ -22,7 +22,7 @@ pub struct View {
     pub desk: DeskName,
     /// The operations that it has seen.
     pub seen: LinkedList<Op>,
-    /// Those that it was told of.
+    /// The operations that it was told of.
     pub told: LinkedList<Op>,
 }
 

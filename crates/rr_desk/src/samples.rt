@@ -1,4 +1,4 @@
-//! Samples of series that are known, put one after the other.
+//! Samples of known series, put one after the other.
 ghost use Rattle.std.specs.Prelude.{◌≡◌, ℕ, ◌≤◌, length, map, take, unwrap_or};
 ghost use Rattle.rr_text.specs.declared.limits.TheConstants.{MAX_FIELDS};
 ghost use Rattle.rr_desk.specs.KeeperState.{own_replica};
@@ -26,11 +26,10 @@ impl<A: Cells> Keeper<A> {
     ghost use Rattle.rr_desk.specs.Points.{keyed_value, with_put, with_samples};
 
     /// Puts a sample of each value, in order, as [`Keeper::write`] puts those of a point whose
-    /// fields have these keys, and answers how many.
+    /// fields have these keys, and returns how many.
     ///
-    /// Refused as `AheadOfClock`, as `NumbersSpent` and as `Memory` as there. The cost is that of
-    /// the puts; of a series that is where its hint says, the key is compared once and not looked
-    /// up.
+    /// Refused as `AheadOfClock`, `NumbersSpent` or `Memory`, as there. The cost is that of the
+    /// puts; if a series is where its hint says, its key is compared once and not looked up.
     pub fn write_samples(
         &mut self,
         values: &[KeyedValue],

@@ -1,4 +1,4 @@
-//! The two copies of a replica that readers read in turn.
+//! The two copies of a replica shown to readers in turn.
 
 use crate::book::Prefix;
 use crate::change::{Change, NumberedCell, NumberedSample};
@@ -16,7 +16,7 @@ impl NumberedSample {
     ghost use Rattle.rr_replica.specs.Numbered.{puts_at};
     ghost use Rattle.rr_desk.specs.Writers.{AppliesOps};
 
-    /// Puts it to a replica, if that takes it. After an error nothing has changed.
+    /// Puts it into a replica, if that takes it. After an error nothing has changed.
     fn apply_to<A: Cells>(&self, replica: &mut Replica<A>) -> Result<(), AllocError>
         ensures { AppliesOps (puts_at replica.old.keys replica.old.origin self.now.series
             self.now.number self.now.time self.now.value) replica.old replica.new result }
@@ -67,7 +67,7 @@ pub struct Shown<A: Cells> {
 impl<A: Cells> Shown<A> {
     ghost use Rattle.rr_desk.specs.Writers.{IsSameShown};
 
-    /// Shares rows of a series with the copy that was first, if they are looked for.
+    /// Shares rows of a series with the copy that went first, if they are looked for.
     fn share_rows(&mut self, wanted: bool, series: usize, first: &Shown<A>)
         ensures { IsSameShown self.old self.new }
     {
@@ -77,7 +77,7 @@ impl<A: Cells> Shown<A> {
     }
 }
 
-/// What a replica holds. No value of it is made.
+/// What a replica holds. Never constructed.
 pub struct Held {
     schema: Schema,
     origin: Origin,
@@ -95,7 +95,7 @@ impl Model for Held {
     ghost view = { λ h. record { schema = h.schema; origin = h.origin; next = h.next; cells = empty } };
 }
 
-/// What the two copies have in common. No value of it is made.
+/// What the two copies have in common. Never constructed.
 pub struct CopyState {
     /// What the replica holds.
     pub held: Held,

@@ -32,7 +32,7 @@ fn first_batch<A: Cells, K: Batch>(
     book.add::<K>()
 }
 
-/// A copy of a replica, which is not opened for readers yet.
+/// A copy of a replica, not yet opened for readers.
 fn unopened<A: Cells>(
     alloc: Global,
     replica: &Replica<A>,
@@ -50,13 +50,14 @@ fn unopened<A: Cells>(
     })
 }
 
-/// Lets a writer go whose desk isn't opened.
+/// Discards a writer whose desk isn't opened.
 pub fn discard<A: Cells, R: Wait>(writer: DeskWriter<A>, rt: &R) -> AllocError {
     drop(writer.take(rt));
     AllocError
 }
 
-/// A writer of two copies of a replica with room for `readers` readers, of which none can come yet.
+/// A writer of two copies of a replica with room for `readers` readers, none of which can enter
+/// yet.
 fn unopened_writer<A: Cells>(
     alloc: Global,
     replica: &Replica<A>,
@@ -70,8 +71,8 @@ fn unopened_writer<A: Cells>(
     DeskWriter::new(alloc, first, second, readers.value)
 }
 
-/// A writer of two copies of a replica, to which up to `readers` readers may come. The book gets
-/// its first edition, of one join for each cell of the replica.
+/// A writer of two copies of a replica, which up to `readers` readers may enter. The book gets its
+/// first edition, of one join for each cell of the replica.
 pub fn started_writer<A: Cells, R: Wait>(
     alloc: Global,
     rt: &R,
@@ -86,7 +87,7 @@ pub fn started_writer<A: Cells, R: Wait>(
     ensures prefix { IfOk result (λ w. w.desk.shown.value.prefix ≡ book.new) }
     ensures book { OnOk result (flat book.new.editions ≡ joins_of replica.now.cells) }
 {
-    // The proof needs what the replica keeps to, which `schema` ensures.
+    // The proof needs the replica's invariant, which `schema` ensures.
     let _schema = replica.schema();
     first_batch::<A, Brand>(book, replica)?;
     let mut writer = unopened_writer(alloc, replica, readers, &*book)?;

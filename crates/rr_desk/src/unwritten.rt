@@ -7,25 +7,25 @@ use rr_changes::{ChangeTracker, op_time};
 use rr_schema::Schema;
 use std::alloc::{AllocError, Global};
 
-/// How long a row of the first archive is, in nanoseconds.
+/// The span of the first archive's rows, in nanoseconds.
 fn row_time(schema: &Schema) -> u64 {
     // The proof needs that the schema has an archive, which `archives` ensures.
     let _archives = schema.archives();
     u64::from(schema.span(0)) * 1_000_000_000
 }
 
-/// What a keeper has not written yet: of each series the times at which it changed, and how many
+/// What a keeper has not written yet: for each series, the times at which it changed, and how many
 /// operations there were.
 #[derive(Drop)]
 pub struct Unwritten {
     /// The series that changed.
     pub tracker: ChangeTracker,
-    /// How many operations there were, those that changed nothing among them.
+    /// How many operations there were, including those that changed nothing.
     pub count: u64,
 }
 
 impl Unwritten {
-    /// All is written. Times in neighbouring rows of the schema's first archive are tracked
+    /// Nothing is unwritten. Times in neighbouring rows of the schema's first archive are tracked
     /// together. Takes no memory.
     pub fn new(alloc: Global, schema: &Schema) -> Unwritten
         ensures count { result.count ≡ 0 }
@@ -36,7 +36,7 @@ impl Unwritten {
         }
     }
 
-    /// Makes room for one operation more, on the series with a number.
+    /// Makes room for one more operation, on the series with this number.
     #[inline(always)]
     pub fn ready(&mut self, series: usize) -> Result<(), AllocError>
         ensures same { TracksTheSame self.old self.new }
@@ -50,8 +50,7 @@ impl Unwritten {
         self.tracker.ready(series)
     }
 
-    /// Counts an operation on the series with a number, and tracks its time if it changes
-    /// cells.
+    /// Counts an operation on the series with this number, and tracks its time if it changes cells.
     #[inline(always)]
     pub fn add(&mut self, series: usize, op: &Op, changes: bool)
         requires { HasRoomFor self.old series }
@@ -65,7 +64,7 @@ impl Unwritten {
         self.count += 1;
     }
 
-    /// All is written. The cost is linear in the series that changed.
+    /// Marks all as written. The cost is linear in the series that changed.
     pub fn clear(&mut self)
         ensures count { self.new.count ≡ 0 }
     {

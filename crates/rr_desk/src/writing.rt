@@ -1,4 +1,4 @@
-//! What the keeper does with the copies, each under the rule.
+//! What the keeper does with the copies, all under the rule.
 ghost use Rattle.std.specs.Prelude.{◌≡◌, true, false, [], ◌∷◌, OnErr, OnOk, MatchResult};
 ghost use Rattle.left_right.specs.Sides.{view};
 ghost use Rattle.rr_schema.specs.Schema.{IsLayout};
@@ -25,8 +25,8 @@ use std::sync::Wait;
 /// The keeper's side of the copies.
 pub type DeskWriter<A> = Writer<Shown<A>, Change, View, Published>;
 
-/// The first publication: readers may come, and see one join for each cell. The end of an edition
-/// alone is pending.
+/// The first publication: readers may enter, and see one join for each cell. Only the end of an
+/// edition is pending.
 pub fn start<A: Cells, R: Wait>(
     rt: &R,
     writer: DeskWriter<A>,
@@ -51,7 +51,7 @@ pub fn start<A: Cells, R: Wait>(
     writer.publish_as::<Opens, R>(rt)
 }
 
-/// `publish`, of the operations that are picked.
+/// `publish`, of the operations picked.
 fn publish_batch<A: Cells, K: Batch, R: Wait>(
     rt: &R,
     writer: DeskWriter<A>,
@@ -64,7 +64,7 @@ fn publish_batch<A: Cells, K: Batch, R: Wait>(
     writer.publish_as::<Publishes<K>, R>(rt)
 }
 
-/// Shows readers all pending changes at one step. Where it is refused, they see what they saw.
+/// Shows readers all pending changes in one step. If it is refused, they see what they saw.
 pub fn publish<A: Cells, R: Wait>(
     rt: &R,
     writer: DeskWriter<A>,
@@ -76,8 +76,8 @@ pub fn publish<A: Cells, R: Wait>(
     publish_batch::<A, Brand, R>(rt, writer)
 }
 
-/// Adds an edition to the book of all that it lacks, which are the operations picked: it then has
-/// what is published, and after it all that is pending.
+/// Adds to the book an edition of all that it lacks, which are the operations picked: it then has
+/// what is published, followed by all that is pending.
 fn reach_batch<A: Cells, K: Batch>(
     book: &mut Editions,
     writer: &DeskWriter<A>,
@@ -90,7 +90,7 @@ fn reach_batch<A: Cells, K: Batch>(
     book.add::<K>()
 }
 
-/// Makes the pending changes ready to be published, unless they are so already (`ended`): the book
+/// Makes the pending changes ready to be published, unless they already are (`ended`): the book
 /// then has all of them, and the last is the end of its edition.
 pub fn end_edition<A: Cells>(
     book: &mut Editions,
@@ -124,7 +124,7 @@ pub fn end_edition<A: Cells>(
     Ok(())
 }
 
-/// Tells a new reader of the desk, and of what is published.
+/// Tells a new reader of the desk and of what is published.
 pub fn introduce<A: Cells>(writer: &mut DeskWriter<A>, handle: &mut ReadHandle<A>)
     requires { handle.old.place.table_id ≡ writer.old.desk.place.table_id }
     ensures news { view handle.new.place ≡ with_news (view handle.old.place)

@@ -1,4 +1,4 @@
-//! Records, committed: written to a journal and synced.
+//! Committing records: writing them to a journal and syncing it.
 ghost use Rattle.std.specs.Prelude.{◌≡◌, ◌≤◌, ◌↔◌, length, map, All, IsTrue, OnOk};
 ghost use Rattle.std.specs.Io.KnownBytes.{append_known};
 ghost use Rattle.std.specs.Option.{SomeIff};
@@ -18,17 +18,17 @@ use thiserror::Error;
 /// Why records are not committed.
 #[derive(Clone, Copy, Debug, PartialEq, Eq, Error)]
 pub enum CommitFault {
-    /// They could not be written, and what was written of them is taken back. They can be committed
+    /// They could not be written, and what was written of them is discarded. They can be committed
     /// again.
     #[error("the journal could not be written")]
     NotWritten,
-    /// A sync failed, or what was written could not be taken back. What the journal holds is known
-    /// only up to the last sync that succeeded: it is to be opened and read again.
+    /// A sync failed, or what was written could not be discarded. What the journal holds is known
+    /// only up to the last successful sync: it must be opened and read again.
     #[error("the journal could not be synced")]
     NotSynced,
 }
 
-/// Appends a record after the one with this digest, which then is its own.
+/// Appends a record after the one with `digest`, and sets `digest` to its own.
 fn append_record<J: Journal>(
     journal: &mut J,
     digest: &mut [u8; DIGEST_LEN],
@@ -49,8 +49,7 @@ fn append_record<J: Journal>(
     Ok(())
 }
 
-/// Appends records, the first of them after the one with this digest, which then is that of the
-/// last.
+/// Appends records after the one with `digest`, and sets `digest` to that of the last.
 fn append_all<J: Journal>(
     journal: &mut J,
     digest: &mut [u8; DIGEST_LEN],
@@ -68,7 +67,7 @@ fn append_all<J: Journal>(
     Ok(())
 }
 
-/// Appends the records between two syncs, the first of them as the first one after a sync.
+/// Appends a batch, its first record as the first after a sync.
 fn append_batch<J: Journal>(
     journal: &mut J,
     digest: &mut [u8; DIGEST_LEN],
@@ -93,7 +92,7 @@ fn append_batch<J: Journal>(
     append_all(journal, digest, others)
 }
 
-/// How many bytes records have, if they are no more than may be written between two syncs.
+/// The size of records in bytes, if no more than may be written between two syncs.
 fn batch_len(records: &[RawRecord]) -> Option<usize>
     ensures { SomeIff result (records_len (map raw_of records.now) ≤ MAX_UNSYNCED)
         (records_len (map raw_of records.now)) }
@@ -109,20 +108,20 @@ fn batch_len(records: &[RawRecord]) -> Option<usize>
     Some(len)
 }
 
-/// Whether records are no more than may be written between two syncs.
+/// Whether records have no more bytes than may be written between two syncs.
 pub fn fits_between_syncs(records: &[RawRecord]) -> bool
     ensures { IsTrue result ↔ (records_len (map raw_of records.now) ≤ MAX_UNSYNCED) }
 {
     batch_len(records).is_some()
 }
 
-/// Appends records to a journal and syncs them, so that what they mean may be acknowledged: a crash
-/// leaves them, and all before them. `cursor` is the end of the journal, and moves with it.
+/// Appends records to a journal and syncs them, so that what they mean may be acknowledged: they
+/// survive a crash, with all before them. `cursor` is the end of the journal, and moves with it.
 ///
-/// They have at most [`MAX_UNSYNCED`](crate::MAX_UNSYNCED) bytes, as [`fits_between_syncs`] tells,
-/// and all that was written before is synced. Nothing of them may be acknowledged after a refusal:
-/// `NotWritten` leaves all as it was, so that they can be committed again; after `NotSynced` what
-/// was synced before still is, and the journal is to be opened and read again.
+/// They have at most [`MAX_UNSYNCED`](crate::MAX_UNSYNCED) bytes, as [`fits_between_syncs`] checks,
+/// and all that was written before is synced. None of them may be acknowledged after a refusal:
+/// `NotWritten` leaves all as it was, so they can be committed again; after `NotSynced` what was
+/// synced before still is, and the journal must be opened and read again.
 pub fn commit<J: Journal>(
     journal: &mut J,
     cursor: &mut Cursor,

@@ -14,7 +14,7 @@ use crate::raw::{FIRST, RawRecord};
 use rr_schema::{Origin, Schema};
 use std::alloc::Global;
 
-/// Refuses bytes behind a last field.
+/// Refuses bytes after the last field.
 fn no_more(rest: &[u8]) -> Result<(), JournalFault>
     ensures { Finds (λ x. x) result (alone (tt, rest.now)) }
 {
@@ -24,7 +24,7 @@ fn no_more(rest: &[u8]) -> Result<(), JournalFault>
     Ok(())
 }
 
-/// The origin that a body is.
+/// The origin that a body holds.
 fn origin_of(body: &[u8]) -> Result<Origin, JournalFault>
     ensures { Finds (λ x. x) result (origin_of body.now) }
 {
@@ -36,7 +36,7 @@ fn origin_of(body: &[u8]) -> Result<Origin, JournalFault>
     Ok(origin)
 }
 
-/// The place in a journal that a body is.
+/// The place in a journal that a body holds.
 fn cursor_of(body: &[u8]) -> Result<Cursor, JournalFault>
     ensures { Finds (λ x. x) result (cursor_of body.now) }
 {
@@ -45,7 +45,7 @@ fn cursor_of(body: &[u8]) -> Result<Cursor, JournalFault>
     Ok(cursor)
 }
 
-/// The number that a body is.
+/// The number that a body holds.
 fn count_of(body: &[u8]) -> Result<u64, JournalFault>
     ensures { Finds (λ x. x) result (count_of body.now) }
 {
@@ -54,14 +54,14 @@ fn count_of(body: &[u8]) -> Result<u64, JournalFault>
     Ok(count)
 }
 
-/// What a record means. One that came from elsewhere is checked: the cells that are taken are of
-/// the schema, valid in their slots and ascend in each group.
+/// What a record means. One from elsewhere is checked: the cells taken are of the schema, valid in
+/// their slots and ascending in each group.
 ///
-/// Refusals are those of the first fault from left to right: `BadKind`; `Short` where fewer bytes
-/// are left than a field has; in each group `BadKey`, where the length of the key is 0 or above
-/// 1,024 before its text is read, or the text is not a key text, `BadArchive`, and what
-/// [`rr_codec::check`] says of the packed cells; `BadOrigin`; `TrailingBytes`. `Memory` comes only
-/// where nothing is refused. The cost is linear in the bytes.
+/// Refused as the first fault from left to right: `BadKind`; `Short` if fewer bytes are left than a
+/// field has; in each group `BadKey`, if the length of the key is 0 or above 1,024, before its text
+/// is read, or the text is not a key text, `BadArchive`, and what [`rr_codec::check`] refuses in
+/// the packed cells; `BadOrigin`; `TrailingBytes`. `Memory` comes only if nothing is refused. The
+/// cost is linear in the bytes.
 #[tactic(auto, unfolding(crate::specs::Body::meaning_at))]
 pub fn decode(alloc: Global, raw: &RawRecord, schema: &Schema) -> Result<Record, JournalFault>
     ensures read { GivesUnless JournalFault.Memory meaning_of result

@@ -4,7 +4,7 @@ ghost use Rattle.rr_journal.specs.Digest.{cut_digest, link};
 
 use sha2::{Digest, Sha256};
 
-/// How many bytes a digest has.
+/// The size of a digest in bytes.
 pub const DIGEST_LEN: usize = 8;
 
 const _: () = prove!(DIGEST_LEN == 8);
@@ -29,7 +29,7 @@ pub(crate) fn cut_digest(text: &[u8]) -> [u8; DIGEST_LEN]
     cut(&hasher.finalize())
 }
 
-/// The digest of a record after that of the record before it. The cost is linear in the body.
+/// The digest of a record, given that of the record before it. The cost is linear in the body.
 #[tactic(auto, unfolding(crate::specs::Digest::cut_digest))]
 pub(crate) fn link(before: &[u8; DIGEST_LEN], kind: u8, body: &[u8]) -> [u8; DIGEST_LEN]
     requires { length body.now < 2 ^ 32 }

@@ -83,9 +83,9 @@ fn body_bytes(alloc: Global, meaning: &Record) -> Result<Vec<u8>, JournalFault>
     }
 }
 
-/// A record as its kind and its body, to be written. Refused as `TooLong` where the body has more
-/// than [`MAX_BODY_LEN`] bytes, so that a record of more groups is to be written as several. The
-/// cost is linear in the bytes.
+/// A record as its kind and its body, to be written. Refused as `TooLong` if the body has more than
+/// [`MAX_BODY_LEN`] bytes, so that a record of more groups must be written as several. The cost is
+/// linear in the bytes.
 pub fn encode(alloc: Global, meaning: &Record) -> Result<RawRecord, JournalFault>
     ensures text { IfOk result (λ raw. raw_of raw ≡ raw_text (meaning_of meaning.now)) }
     ensures fits { IfOk result (λ raw. length raw.body.items ≤ MAX_BODY_LEN) }

@@ -23,7 +23,7 @@ pub enum JournalFault {
     BadDecimals,
     /// The journal is of another schema.
     SchemaDiffers,
-    /// A header's digest isn't its own, or a record's isn't the one after the record before it.
+    /// A header's digest doesn't match, or a record's doesn't chain to the record before it.
     BadDigest,
     /// A record states more bytes than it may have, or has more.
     TooLong,
@@ -46,7 +46,7 @@ pub enum JournalFault {
 impl JournalFault {
     ghost use Rattle.rr_journal.specs.Fault.{journal_fault_name};
 
-    /// The printed name: the variant's, or that of the fault below.
+    /// The printed name: the variant's, or that of the fault within.
     pub fn name(&self) -> &'static str
         ensures { result.now ≡ journal_fault_name self.now }
     {

@@ -18,8 +18,8 @@ pub struct Group {
 }
 
 impl Group {
-    /// These cells of a key and archive, packed: fewer than 2^32, each by its slot. They are to
-    /// ascend by slot and origin, or the group isn't read. The cost is that of
+    /// These cells of a key and archive, packed: fewer than 2^32, each with its slot. They must
+    /// ascend by slot and origin, or the group can't be read. The cost is that of
     /// [`rr_codec::encode`].
     pub fn new(
         alloc: Global,

@@ -16,7 +16,7 @@ use rr_schema::Schema;
 use rr_text::limits::MAX_KEY_TEXT;
 use std::alloc::{AllocError, Global};
 
-/// A group that is still in the bytes that it was read from.
+/// A group still in the bytes it was read from.
 #[derive(Clone, Copy)]
 struct FoundGroup<'a> {
     key: &'a [u8],
@@ -55,7 +55,7 @@ fn archive_at<'a>(bytes: &'a [u8], schema: &Schema) -> Result<(u8, &'a [u8]), Jo
     Ok((archive, rest))
 }
 
-/// Refuses bytes that are no packed cells of an archive.
+/// Refuses bytes that aren't packed cells of an archive.
 fn check_packed(bytes: &[u8], schema: &Schema, archive: u8) -> Result<(), JournalFault>
     requires { archive < length schema.now.archives }
     ensures good { OnOk result (IsOk (checked_count schema.now archive bytes.now)) }
@@ -67,7 +67,7 @@ fn check_packed(bytes: &[u8], schema: &Schema, archive: u8) -> Result<(), Journa
     }
 }
 
-/// Packed cells after their length, as an archive may have them, and what follows them.
+/// Packed cells that an archive may have, after their length, and what follows them.
 #[tactic(auto, unfolding(crate::specs::Body::packed_at))]
 fn packed_at<'a>(
     bytes: &'a [u8],
@@ -119,7 +119,7 @@ impl FoundGroup<'_> {
     }
 }
 
-/// Takes a group at the beginning of the bytes. Answers what follows it.
+/// Takes a group at the beginning of the bytes, and returns what follows it.
 fn take_group<'a>(
     alloc: Global,
     groups: &mut Vec<Group>,
@@ -137,7 +137,7 @@ fn take_group<'a>(
     Ok(rest)
 }
 
-/// The groups that the bytes are, each copied as it is read.
+/// The groups that the bytes hold, each copied as it is read.
 fn copied_groups(alloc: Global, bytes: &[u8], schema: &Schema) -> Result<Vec<Group>, JournalFault>
     ensures { GivesUnless JournalFault.Memory (λ groups. map packed_cells groups.items) result
         (groups_of schema.now bytes.now) }
@@ -150,7 +150,7 @@ fn copied_groups(alloc: Global, bytes: &[u8], schema: &Schema) -> Result<Vec<Gro
     Ok(groups)
 }
 
-/// Refuses a group at the beginning of the bytes that is none. Answers what follows it.
+/// Refuses bytes that don't begin with a group, and returns what follows the group.
 fn skip_group<'a>(bytes: &'a [u8], schema: &Schema) -> Result<&'a [u8], JournalFault>
     ensures { Finds (λ rest. rest.now) result (rest_of (group_at schema.now bytes.now)) }
 {
@@ -160,7 +160,7 @@ fn skip_group<'a>(bytes: &'a [u8], schema: &Schema) -> Result<&'a [u8], JournalF
     }
 }
 
-/// Refuses bytes that are no groups. No memory is taken.
+/// Refuses bytes that aren't groups. No memory is taken.
 fn check_groups(bytes: &[u8], schema: &Schema) -> Result<(), JournalFault>
     ensures good { OnOk result (IsOk (groups_of schema.now bytes.now)) }
     ensures checks { Refuses result (groups_of schema.now bytes.now) }
@@ -172,8 +172,8 @@ fn check_groups(bytes: &[u8], schema: &Schema) -> Result<(), JournalFault>
     Ok(())
 }
 
-/// The groups that the bytes are. Where memory runs out, what is left is still checked, so that
-/// `Memory` hides no other fault.
+/// The groups that the bytes hold. If memory runs out, the rest is still checked, so that `Memory`
+/// hides no other fault.
 pub(crate) fn groups_of(
     alloc: Global,
     bytes: &[u8],

@@ -1,4 +1,4 @@
-//! What stands before the records in a file of a journal.
+//! What precedes the records in a file of a journal.
 ghost use Rattle.std.specs.Prelude.{◌≡◌, ◌≤◌, IfOk, length};
 ghost use Rattle.rr_io.specs.Counted.{inner_of};
 ghost use Rattle.rr_io.specs.Stream.{KeepsFailures, ReadsSome};
@@ -34,7 +34,7 @@ const _: () = prove!(DECIMALS == 0);
 
 const _: () = prove!(BESIDES_LEN == 40);
 
-/// How many bytes a schema has.
+/// The size of a schema in bytes.
 fn schema_len(schema: &Schema) -> u16
     ensures value { result ≡ length (schema_bytes schema.now) }
     ensures few { result ≤ 77 }
@@ -43,7 +43,7 @@ fn schema_len(schema: &Schema) -> u16
     schema.byte_len() as u16
 }
 
-/// The header of a file that begins at this place of a journal.
+/// The header of a file that begins at this place in a journal.
 #[tactic(auto, unfolding(crate::specs::Header::header_text, crate::specs::Header::undigested_header, crate::specs::Cursor::cursor_text))]
 pub fn header_bytes(alloc: Global, schema: &Schema, begins: &Cursor) -> Result<Vec<u8>, AllocError>
     ensures { IfOk result (λ bytes. bytes.items ≡ header_text schema.now begins.now) }
@@ -63,7 +63,7 @@ pub fn header_bytes(alloc: Global, schema: &Schema, begins: &Cursor) -> Result<V
     Ok(bytes)
 }
 
-/// The magic, the version and the decimals. Answers what follows them.
+/// Checks the magic, the version and the decimals, and returns what follows them.
 #[tactic(auto, unfolding(crate::specs::Header::start_at))]
 fn after_start(bytes: &[u8]) -> Result<&[u8], JournalFault>
     ensures { Finds (λ rest. rest.now) result (start_at bytes.now) }
@@ -83,7 +83,7 @@ fn after_start(bytes: &[u8]) -> Result<&[u8], JournalFault>
     Ok(rest)
 }
 
-/// A schema and its length. Answers what follows them.
+/// Checks a schema and its length, and returns what follows them.
 #[tactic(auto, unfolding(crate::specs::Header::after_schema))]
 fn after_schema<'a>(bytes: &'a [u8], schema: &Schema) -> Result<&'a [u8], JournalFault>
     ensures { Finds (λ rest. rest.now) result (after_schema schema.now bytes.now) }
@@ -99,7 +99,7 @@ fn after_schema<'a>(bytes: &'a [u8], schema: &Schema) -> Result<&'a [u8], Journa
     Ok(rest)
 }
 
-/// How many bytes of a header its digest is of.
+/// How many bytes of a header its digest covers.
 fn undigested_len(schema: &Schema) -> usize
     ensures value { result ≡ undigested_len schema.now }
     ensures few { result ≤ 117 }
@@ -107,7 +107,7 @@ fn undigested_len(schema: &Schema) -> usize
     BESIDES_LEN + schema_len(schema) as usize
 }
 
-/// How many bytes the header of a file has, behind which its records begin.
+/// The size in bytes of a file's header, after which its records begin.
 pub fn header_len(schema: &Schema) -> usize
     ensures value { result ≡ header_len schema.now }
     ensures few { result ≤ 125 }
@@ -132,13 +132,12 @@ fn header_of<'a>(bytes: &'a [u8], schema: &Schema) -> Result<(Cursor, &'a [u8]),
     Ok((cursor, rest))
 }
 
-/// Reads a header, and nothing behind it, and answers the place of the journal at which the file
+/// Reads a header and nothing beyond it, and returns the place in the journal at which the file
 /// begins.
 ///
-/// Refusals are those of the first fault from left to right: `Short` where the bytes end before a
-/// field does; `BadMagic`; `BadVersion`; `BadDecimals`; `SchemaDiffers`, also of another length;
-/// `BadDigest`. `ReadFailed` comes where the reader fails. Of memory as much is taken as the header
-/// has bytes.
+/// Refused as the first fault from left to right: `Short` if the bytes end before a field does;
+/// `BadMagic`; `BadVersion`; `BadDecimals`; `SchemaDiffers`, also for another length; `BadDigest`.
+/// `ReadFailed` comes if the reader fails. Takes as much memory as the header has bytes.
 pub fn header_from<R: Read>(
     alloc: Global,
     input: &mut Counted<R>,

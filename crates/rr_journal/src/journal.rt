@@ -1,4 +1,4 @@
-//! What a node writes a journal through.
+//! The trait through which a node writes a journal.
 
 use thiserror::Error;
 
@@ -9,8 +9,8 @@ pub struct JournalFailed;
 
 /// Where a node writes records, so that they survive a crash.
 ///
-/// Contracts see it as its text, the bytes that were written, and the part of it that is synced,
-/// where these are known. A crash leaves what is synced, followed by anything at all.
+/// Contracts see it as its text (the bytes written) and the part of it that is synced, where these
+/// are known. A crash leaves what is synced, followed by anything at all.
 pub trait Journal {
     ghost use Rattle.std.specs.Prelude.{◌≡◌, ℕ, List, OnOk, Option};
     ghost use Rattle.std.specs.Io.KnownBytes.{append_known};
@@ -20,18 +20,18 @@ pub trait Journal {
 
     ghost synced: { Self → Option (List ℕ) };
 
-    /// Appends a piece. Where that fails, some of it may be written.
+    /// Appends a piece. If that fails, some of it may be written.
     fn append(&mut self, piece: &[u8]) -> Result<(), JournalFailed>
         ensures text { OnOk result (text self.new ≡ append_known (text self.old) piece.now) }
         ensures synced { synced self.new ≡ synced self.old };
 
-    /// Makes all that was written survive a crash. Where that fails, some of it may.
+    /// Makes everything written so far survive a crash. If that fails, some of it may.
     fn sync(&mut self) -> Result<(), JournalFailed>
         ensures text { text self.new ≡ text self.old }
         ensures whole { OnOk result (synced self.new ≡ text self.old) }
         ensures grows { Grows (synced self.old) (synced self.new) };
 
-    /// Takes back all that was written since the last sync.
+    /// Discards everything written since the last sync.
     fn cut_back(&mut self) -> Result<(), JournalFailed>
         ensures text { OnOk result (text self.new ≡ synced self.old) }
         ensures synced { synced self.new ≡ synced self.old };

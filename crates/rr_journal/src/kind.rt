@@ -6,7 +6,7 @@ pub(crate) const CELLS: u8 = 1;
 /// The origin of the samples from here on.
 pub(crate) const ORIGIN: u8 = 2;
 
-/// How far another journal was joined before.
+/// How far another journal had been joined.
 pub(crate) const CURSOR: u8 = 3;
 
 /// The end of a checkpoint.

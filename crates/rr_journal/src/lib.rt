@@ -1,5 +1,4 @@
-//! A journal: records in files that are appended to, each with a digest that chains it to the one
-//! before.
+//! A journal: records appended to files, each with a digest that chains it to the one before.
 //!
 //! ```text
 //! header   "RRJN", version u8, decimals u8, length of the schema u16, schema,
@@ -10,22 +9,22 @@
 //! kind 2   origin: u16
 //! kind 3   cursor: id [16], offset u64, digest [8]
 //! kind 4   end of a checkpoint: how many cells it has, u64
-//! kind +128  the record is the first one after a sync
+//! kind +128  the record is the first after a sync
 //! ```
 //!
 //! Numbers are big-endian. A record has at most 1 MiB, and no more is written between two syncs. A
-//! digest is the first eight bytes of a SHA-256; that of a record is of
-//! the digest of the record before it, and of its own length, kind and body. A header names its
-//! place in the journal, a [`Cursor`]: the journal's id, how many bytes of records there are before
-//! the file, and the digest of the last of them, after which the first record chains. So a record
-//! that is lost, repeated, exchanged or changed shows, also from file to file.
+//! digest is the first eight bytes of a SHA-256; that of a record covers the digest of the record
+//! before it, and its own length, kind and body. A header names its place in the journal, a
+//! [`Cursor`]: the journal's id, how many bytes of records come before the file, and the digest of
+//! the last of them, to which the first record chains. So a record that is lost, repeated, swapped
+//! or changed is detected, across files too.
 //!
-//! [`encode`] makes a [`RawRecord`] of what a [`Record`] means, and [`decode`] checks one that came
-//! from anywhere. Of a file that a crash left, [`header_from`] and [`read_record`] read a header and
-//! then one record at a time, up to where none is whole, and say why ([`Stop`]): the end, a tail
-//! that a crash tore, or damage. A node writes through a [`Journal`]: what [`commit`] acknowledges
-//! is synced. [`laws`] says that what was written is read, that of a prefix the whole records are,
-//! and that what is synced is read whatever stands behind it.
+//! [`encode`] turns a [`Record`] into a [`RawRecord`], and [`decode`] checks one from anywhere.
+//! From a file that a crash left, [`header_from`] and [`read_record`] read a header and then one
+//! record at a time, until none is whole, and say why ([`Stop`]): the end, a tail that a crash
+//! tore, or damage. A node writes through a [`Journal`]: what [`commit`] acknowledges is synced.
+//! [`laws`] states that what was written is read, that a prefix is read as its whole records, and
+//! that what is synced is read whatever follows it.
 #![tactic(auto)]
 
 mod committing;

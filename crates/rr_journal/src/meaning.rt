@@ -9,9 +9,9 @@ use rr_schema::Origin;
 pub enum Record {
     /// Cells to be joined: one group or more.
     Cells(Vec<Group>),
-    /// The origin under which the node's samples are from here on.
+    /// The origin of the node's samples from here on.
     Origin(Origin),
-    /// How far another node's journal was joined before this.
+    /// How far another node's journal had been joined before this.
     Cursor(Cursor),
     /// The end of a checkpoint, and how many cells it has.
     End(u64),

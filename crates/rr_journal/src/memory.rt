@@ -1,14 +1,14 @@
-//! A journal over memory.
+//! A journal in memory.
 
 use crate::journal::{Journal, JournalFailed};
 use std::marker::Model;
 
-/// A journal over memory, which tells its bytes and how many of them are synced.
+/// A journal in memory, which tells its bytes and how many of them are synced.
 #[derive(Debug, Drop)]
 pub struct MemoryJournal {
     bytes: Vec<u8>,
     synced: usize,
-    /// How many calls are taken before one fails; none fails where this is missing.
+    /// How many calls are taken before one fails; if absent, none does.
     left: Option<u64>,
 }
 
@@ -26,7 +26,7 @@ impl Model for MemoryJournal {
 impl MemoryJournal {
     ghost use Rattle.std.specs.Prelude.{◌≡◌, length};
 
-    /// A journal of these bytes, all of them synced, of which no call fails.
+    /// A journal of these bytes, all of them synced, with no failing call.
     pub fn new(bytes: Vec<u8>) -> MemoryJournal
         ensures { result ≡ record { bytes = bytes.items; synced = length bytes.items } }
     {
@@ -38,7 +38,7 @@ impl MemoryJournal {
         }
     }
 
-    /// The same, of which the call after so many others fails.
+    /// The same, whose call after this many others fails.
     pub fn failing(self, calls: u64) -> MemoryJournal
         ensures { result ≡ self }
     {
@@ -62,7 +62,7 @@ impl MemoryJournal {
         self.synced
     }
 
-    /// Counts a call, and answers whether it is the one that fails.
+    /// Counts a call, and returns whether it is the one that fails.
     fn is_due(&mut self) -> bool
         ensures { self.new ≡ self.old }
     {

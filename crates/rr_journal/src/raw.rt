@@ -1,19 +1,19 @@
 //! A record of a journal, as its kind and its bytes.
 use crate::digest::DIGEST_LEN;
 
-/// The most bytes of a record.
+/// The most bytes a record may have.
 pub const MAX_RECORD_LEN: usize = 1_048_576;
 
-/// How many bytes a record has before its body: its length and its kind.
+/// How many bytes precede a record's body: its length and its kind.
 pub(crate) const HEAD_LEN: usize = 5;
 
 /// How many bytes a record has besides its body.
 pub(crate) const BESIDES_LEN: usize = 13;
 
-/// The most bytes of the body of a record.
+/// The most bytes the body of a record may have.
 pub const MAX_BODY_LEN: usize = 1_048_563;
 
-/// What is added to the kind of a record that is the first one after a sync.
+/// What is added to the kind of the first record after a sync.
 pub(crate) const FIRST: u8 = 128;
 
 const _: () = prove!(MAX_RECORD_LEN == 1_048_576);

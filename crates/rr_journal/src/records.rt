@@ -1,4 +1,4 @@
-//! Records, read from a stream.
+//! Reading records from a stream.
 ghost use Rattle.std.specs.Prelude.{◌≡◌, ℕ, ◌≤◌, ◌<◌, List, Err, IfErr, IfOk, length};
 ghost use Rattle.std.specs.Io.KnownBytes.{Consumes};
 ghost use Rattle.rr_io.specs.Counted.{inner_of};
@@ -17,7 +17,7 @@ use rr_io::stream::fill;
 use std::alloc::Global;
 use std::io::Read;
 
-/// As many bytes as asked for, or all that are left.
+/// The next `len` bytes, or all that are left.
 pub(crate) fn bytes_from<R: Read>(
     alloc: Global,
     input: &mut Counted<R>,
@@ -39,8 +39,8 @@ pub(crate) fn bytes_from<R: Read>(
     Ok(bytes)
 }
 
-/// Why a reading stopped that took some bytes where no whole record is: by how many bytes there are
-/// with those that follow, of which at most `MAX_UNSYNCED` are read.
+/// Why reading stopped after taking some bytes that are no whole record, judged by how many they
+/// are with those that follow; of the latter at most `MAX_UNSYNCED` are read.
 fn stopped<R: Read>(
     alloc: Global,
     input: &mut Counted<R>,
@@ -70,7 +70,7 @@ fn stated_len(head: &[u8; HEAD_LEN]) -> usize
     u32::from_be_bytes([a, b, c, d]) as usize
 }
 
-/// The digest of the record that a head and a tail make, if that is the one that the tail has.
+/// The digest of the record that a head and a tail make, if it is the one in the tail.
 fn own_digest(
     before: &[u8; DIGEST_LEN],
     head: &[u8; HEAD_LEN],
@@ -103,7 +103,7 @@ fn record_of(head: &[u8; HEAD_LEN], tail: Vec<u8>) -> RawRecord
     }
 }
 
-/// Reads the record after the one with this digest, which is then that of the record.
+/// Reads the record after the one with `digest`, and sets `digest` to its own.
 fn read_after<R: Read>(
     alloc: Global,
     input: &mut Counted<R>,
@@ -141,12 +141,12 @@ fn read_after<R: Read>(
 
 /// Reads the record at `cursor`, and moves `cursor` past it.
 ///
-/// `Step::Stopped` tells that no record is there, whole and with the digest that it should have;
-/// `cursor` then stays, at the end of what can be read. One record is in memory at a time, of at
-/// most [`MAX_RECORD_LEN`](crate::MAX_RECORD_LEN) bytes; one that states more is refused before
-/// memory is taken for it. Where none is whole, at most [`MAX_UNSYNCED`](crate::MAX_UNSYNCED) bytes
-/// and one more are read, to tell a torn tail from damage. Refused as `ReadFailed` and `Memory`;
-/// `cursor` then stays too. The cost is linear in the bytes that are read.
+/// `Step::Stopped` means that no whole record with the digest it should have is there; `cursor`
+/// then stays, at the end of what can be read. One record is in memory at a time, of at most
+/// [`MAX_RECORD_LEN`](crate::MAX_RECORD_LEN) bytes; one that states more is refused before memory
+/// is taken for it. If none is whole, at most [`MAX_UNSYNCED`](crate::MAX_UNSYNCED) bytes and one
+/// more are read, to tell a torn tail from damage. Refused as `ReadFailed` or `Memory`; `cursor`
+/// then stays too. The cost is linear in the bytes read.
 pub fn read_record<R: Read>(
     alloc: Global,
     input: &mut Counted<R>,

@@ -5,8 +5,8 @@ ghost use Rattle.rr_journal.specs.Reading.{stop_at};
 use crate::fault::JournalFault;
 use crate::raw::RawRecord;
 
-/// The most bytes that a writer leaves unsynced, and so the most that a crash tears. Where more
-/// follow the last whole record, synced bytes are damaged.
+/// The most bytes that a writer leaves unsynced, and so the most that a crash tears. If more follow
+/// the last whole record, synced bytes are damaged.
 pub const MAX_UNSYNCED: usize = 1_048_576;
 
 const _: () = prove!(MAX_UNSYNCED == 1_048_576);
@@ -16,10 +16,10 @@ const _: () = prove!(MAX_UNSYNCED == 1_048_576);
 pub enum Stop {
     /// Nothing follows.
     End,
-    /// A crash tore what follows: it is to be cut off.
+    /// A crash tore what follows: it must be cut off.
     Torn,
     /// More follows than a crash tears: what was synced is damaged. The next record states too
-    /// great a length (`TooLong`), or has another digest (`BadDigest`).
+    /// great a length (`TooLong`), or its digest doesn't match (`BadDigest`).
     Damaged(JournalFault),
 }
 
@@ -32,7 +32,7 @@ pub enum Step {
     Stopped(Stop),
 }
 
-/// Why a reading stopped with so many bytes left, and this fault where they are many.
+/// Why reading stopped with this many bytes left; `fault` tells the damage if a crash tears fewer.
 pub(crate) fn stop_at(fault: JournalFault, left: usize) -> Stop
     ensures { result ≡ stop_at fault left }
 {

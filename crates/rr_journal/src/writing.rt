@@ -1,4 +1,4 @@
-//! Records, written.
+//! Writing records.
 ghost use Rattle.std.specs.Prelude.{◌≡◌, ◌≤◌, ◌++◌, length, OnOk, OnErr};
 ghost use Rattle.rr_io.specs.Stream.{Writes};
 ghost use Rattle.rr_journal.specs.Cursor.{behind};
@@ -12,7 +12,7 @@ use rr_io::Counted;
 use rr_io::stream::{WriteFailed, write_all};
 use std::io::Write;
 
-/// What a record has before its body.
+/// The bytes of a record before its body.
 pub(crate) fn head(kind: u8, body: &[u8]) -> [u8; HEAD_LEN]
     requires { length body.now ≤ MAX_BODY_LEN }
     ensures { result ++ body.now ≡ undigested_text kind body.now }
@@ -21,7 +21,7 @@ pub(crate) fn head(kind: u8, body: &[u8]) -> [u8; HEAD_LEN]
     [a, b, c, d, kind]
 }
 
-/// Writes a record after the one with this digest, which then is its own.
+/// Writes a record after the one with `digest`, and sets `digest` to its own.
 fn write_after<W: Write>(
     output: &mut Counted<W>,
     digest: &mut [u8; DIGEST_LEN],
@@ -43,8 +43,9 @@ fn write_after<W: Write>(
     Ok(())
 }
 
-/// Writes a record at `cursor`, and moves `cursor` past it. After a failure a prefix of the record
-/// was written, and `cursor` stays. Checkpoints are written so, and synced once at their end.
+/// Writes a record at `cursor`, and moves `cursor` past it. After a failure, a prefix of the record
+/// has been written and `cursor` stays. Checkpoints are written this way, and synced once at their
+/// end.
 pub fn write_record<W: Write>(
     output: &mut Counted<W>,
     cursor: &mut Cursor,

@@ -1,4 +1,4 @@
-//! The rows of 64 slots that follow one another.
+//! The rows of 64 consecutive slots.
 ghost use Rattle.std.specs.Prelude.{◌≡◌, ◌&&◌, ℕ, None, Some, is_some, [], ◌∷◌, IfOk, IfSome, IsTrue};
 ghost use Rattle.std.specs.Int.{bit_at};
 ghost use Rattle.rr_archive.specs.Row.{entry_at, with_entry};
@@ -23,7 +23,7 @@ use rr_archive::entries::{Entries, first_entry};
 use rr_schema::Origin;
 use std::alloc::{AllocError, Global};
 
-/// How many slots a block is of.
+/// How many slots a block covers.
 pub(crate) const BLOCK_ROWS: u32 = 64;
 
 const _: () = prove!(BLOCK_ROWS == 64);
@@ -41,7 +41,7 @@ pub(crate) struct Block {
 }
 
 impl Block {
-    /// A block without an entry. It takes no memory yet.
+    /// A block without entries. It takes no memory yet.
     pub(crate) fn new(alloc: Global) -> Block
         ensures { (number : ℕ) → items_in result number ≡ [] }
     {
@@ -53,7 +53,7 @@ impl Block {
         }
     }
 
-    /// The entry of a row that is held as its sample, if it is held so.
+    /// The entry of a row, if it is held as its sample.
     fn entry_read(&self, number: RowNumber) -> Option<Entry>
         ensures found { IfSome result (λ e. entries_read self.now.source
             (item_in self.now.samples number.value) ≡ e ∷ []) }
@@ -100,7 +100,7 @@ impl Block {
         }
     }
 
-    /// Holds the row of a number as its entries, if it is held as a lone sample.
+    /// Holds a row as its entries, if it was held as a lone sample.
     fn unpack(&mut self, number: RowNumber) -> Result<(), AllocError>
         ensures { Unpacks number.value self.old self.new result }
     {
@@ -138,7 +138,7 @@ impl Block {
         }
     }
 
-    /// Makes room for a row of either kind, for one that has no entry.
+    /// Makes room for either kind of row, for one without an entry.
     #[inline(always)]
     fn make_free_room(&mut self, number: RowNumber) -> Result<(), AllocError>
         requires { IsUnheld self.old number.value }
@@ -150,8 +150,8 @@ impl Block {
         self.rows.make_room()
     }
 
-    /// What a change makes of a row without an entry, as a lone sample of this block, if it can be
-    /// one. The first lone sample of a block decides what the others have in common with it.
+    /// The lone sample that a change makes of a row without an entry, if it can be one of this
+    /// block. The first lone sample of a block decides what the others have in common with it.
     #[inline(always)]
     fn sample_of(&mut self, origin: Origin, change: &Change) -> Option<LoneSample>
         ensures source { SetsSource self.old self.new }
@@ -176,9 +176,9 @@ impl Block {
         }
     }
 
-    /// Adds the entry of a row that has none. Gives back the room that was made for entries, if
-    /// there are none and the samples have filled theirs: so it is asked for a few times a block,
-    /// and not at each sample.
+    /// Adds the entry of a row that has none. Gives back the room made for entries, if there are
+    /// none and the samples have filled theirs: so it is asked for a few times a block, not at each
+    /// sample.
     #[inline(always)]
     fn add(&mut self, number: RowNumber, origin: Origin, change: &Change) -> Result<(), AllocError>
         requires { IsUnheld self.old number.value }
@@ -227,7 +227,7 @@ impl Block {
         }
     }
 
-    /// Gives back what its lists don't need.
+    /// Gives back the memory that its lists don't need.
     pub(crate) fn shrink(&mut self)
         ensures { items_in self.new ≡ items_in self.old }
     {

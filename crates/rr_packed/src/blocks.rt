@@ -16,16 +16,15 @@ use std::alloc::{AllocError, Global};
 use std::cmp::Ordering;
 use std::collections::VecDeque;
 
-/// Blocks with their numbers, ascending by these: that of a slot is a 64th of it, rounded to the
-/// floor.
+/// Blocks with their numbers, ascending by these: that of a slot is a 64th of it, rounded down.
 ///
-/// The newest block, which most samples are of, is held in place: it is found without a look at
-/// the list of the older ones, and a series with few rows takes no list. The list takes memory for
-/// 1, 2, 4, 8 .. blocks.
+/// The newest block, which most samples go to, is held in place: it is found without looking at the
+/// list of the older ones, and a series with few rows needs no list. The list takes memory for 1,
+/// 2, 4, 8 .. blocks.
 ///
-/// The number that the blocks were last dropped before is kept, or that of an earlier block that
-/// was added since. No block is before it, so that the first of them is looked at again only when a
-/// later one is asked for: once in 64 slots.
+/// `dropped` is the number before which blocks were last dropped, or that of an earlier block added
+/// since. No block is before it, so that the first block is looked at again only when a later
+/// number is asked for: once in 64 slots.
 #[derive(Drop)]
 pub(crate) struct Blocks {
     pub(crate) alloc: Global,
@@ -85,7 +84,7 @@ impl Blocks {
         }
     }
 
-    /// Whether the newest block is before that of a number.
+    /// Whether the newest block comes before a number.
     fn ends_before(&self, number: i64) -> bool
         ensures { result ≡ starts_before number (option_to_list self.now.newest) }
     {
@@ -95,7 +94,7 @@ impl Blocks {
         }
     }
 
-    /// How many blocks are before that of a number. The newest is looked at first.
+    /// How many blocks come before a number. The newest is looked at first.
     fn count_before(&self, number: i64) -> usize
         ensures { result ≡ count_before number (all_blocks self.now) }
     {
@@ -106,7 +105,8 @@ impl Blocks {
         }
     }
 
-    /// Where the block of a number is; if there is none, where it belongs. Mostly it is the newest.
+    /// Where the block with a number is; if there is none, where it belongs. Usually it is the
+    /// newest.
     #[inline(always)]
     fn find(&self, number: i64) -> Result<usize, usize>
         ensures found { IfOk result (IsPlaceOf number (all_blocks self.now)) }
@@ -126,7 +126,7 @@ impl Blocks {
         Err(at)
     }
 
-    /// The block of a number, if it is there.
+    /// The block with a number, if there is one.
     pub(crate) fn get(&self, number: i64) -> Option<&HeldBlock>
         ensures value { option_copied result ≡ block_at (all_blocks self.now) number }
     {
@@ -139,7 +139,7 @@ impl Blocks {
         }
     }
 
-    /// Makes place for one older block more.
+    /// Makes room for one more older block.
     fn make_place(&mut self) -> Result<(), AllocError>
         ensures older { self.new.older.items ≡ self.old.older.items }
         ensures newest { self.new.newest ≡ self.old.newest }
@@ -151,7 +151,7 @@ impl Blocks {
         self.older.reserve_exact(more)
     }
 
-    /// Puts the newest block, if there is one, at the end of the older ones.
+    /// Moves the newest block, if there is one, to the end of the older ones.
     fn retire(&mut self) -> Result<(), AllocError>
         ensures same { all_blocks self.new ≡ all_blocks self.old }
         ensures none { OnOk result (self.new.newest ≡ None) }
@@ -166,7 +166,7 @@ impl Blocks {
         }
     }
 
-    /// Adds the block of a number that has none, where it belongs.
+    /// Adds a block under a number that has none, where it belongs.
     fn insert(&mut self, at: usize, number: i64, block: HeldBlock) -> Result<(), AllocError>
         requires { IsGapFor number (all_blocks self.old) at }
         ensures added { OnOk result (IsBlockSet number block (all_blocks self.old)
@@ -186,7 +186,7 @@ impl Blocks {
         }
     }
 
-    /// Where the block of a slot is. One without an entry is added, if there is none.
+    /// Where the block of a slot is. If there is none, one without entries is added.
     #[inline(always)]
     fn place_of(&mut self, slot: i64) -> Result<usize, AllocError>
         ensures same { row_at self.new ≡ row_at self.old }
@@ -248,7 +248,7 @@ impl Blocks {
         }
     }
 
-    /// Whether the first block is before that of a number.
+    /// Whether the first block comes before a number.
     fn starts_before(&self, number: i64) -> bool
         ensures { result ≡ starts_before number (all_blocks self.now) }
     {
@@ -258,7 +258,7 @@ impl Blocks {
         }
     }
 
-    /// Takes the first block out.
+    /// Removes the first block.
     fn drop_first(&mut self)
         ensures { all_blocks self.new ≡ drop 1 (all_blocks self.old) }
     {
@@ -268,7 +268,7 @@ impl Blocks {
         }
     }
 
-    /// Takes the blocks out whose slots are all before this one.
+    /// Removes the blocks whose slots are all before this one.
     #[inline(always)]
     pub(crate) fn drop_before(&mut self, slot: i64)
         ensures left { (s : ℤ) → (row_at self.new s ≡ row_at self.old s)

@@ -50,7 +50,7 @@ impl<'a> CellsLeft<'a> {
         }
     }
 
-    /// The next entry of a row, if one is left. The cells before it are passed over, and one of a
+    /// The next entry of a row, if one is left. The cells before it are skipped, and so is one of a
     /// later row if there is none. The cost is that of reading these.
     pub(crate) fn next_of(&mut self, number: RowNumber) -> Option<Entry>
         ensures { MatchOption result

@@ -9,10 +9,10 @@ use crate::packed_rows::PackedRows;
 use std::alloc::Global;
 use std::sync::Arc;
 
-/// The rows of a block that was finished last, as they came and packed. They never change.
+/// The rows of a block that was finished last, both as they came and packed. They never change.
 ///
-/// So others that have such a block compare rows with rows, and the newest rows are read without
-/// unpacking any; once the next block is finished, the packed rows are all that is kept.
+/// So archives with such a block compare rows with rows, and the newest rows are read without
+/// unpacking; once the next block is finished, only the packed rows are kept.
 #[derive(Drop)]
 pub(crate) struct FinishedRows {
     pub(crate) rows: Block,

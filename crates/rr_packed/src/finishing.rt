@@ -1,4 +1,4 @@
-//! Blocks that are made ready to be shared, and taken from other archives.
+//! Making blocks ready to be shared, and taking them from other archives.
 ghost use Rattle.std.specs.Prelude.{◌≡◌, IfSome, IsTrue};
 ghost use Rattle.rr_packed.specs.BlockRows.{items_in};
 ghost use Rattle.rr_packed.specs.Blocks.{is_shared, stored_in};
@@ -11,7 +11,7 @@ use crate::packed_rows::PackedRows;
 use std::alloc::Global;
 use std::sync::Arc;
 
-/// The rows of a block, packed for others to have too; none without memory for that.
+/// The rows of a block, packed to be shared; none without memory for that.
 fn packed(alloc: Global, block: &Block) -> Option<Arc<PackedRows>>
     ensures { IfSome result (λ packed. items_packed packed.value.bytes.items ≡ items_in block.now) }
 {
@@ -19,8 +19,7 @@ fn packed(alloc: Global, block: &Block) -> Option<Arc<PackedRows>>
     Arc::new(alloc, packed).ok()
 }
 
-/// The rows of a block with the same rows packed, for others to have too; none without memory for
-/// that.
+/// The rows of a block with the same rows packed, to be shared; none without memory for that.
 fn finished(alloc: Global, block: &Block, packed: Arc<PackedRows>) -> Option<Arc<FinishedRows>>
     requires { items_packed packed.value.bytes.items ≡ items_in block.now }
     ensures { IfSome result (λ finished. items_in finished.value.rows ≡ items_in block.now) }
@@ -29,8 +28,8 @@ fn finished(alloc: Global, block: &Block, packed: Arc<PackedRows>) -> Option<Arc
     Arc::new(alloc, rows).ok()
 }
 
-/// The rows of a block in one that others may have too: packed, and also as they are if these are to
-/// be kept. None without memory for that.
+/// The rows of a block in one that can be shared: packed, and also as they are if these are to be
+/// kept. None without memory for that.
 fn ready(alloc: Global, block: &Block, keeps_rows: bool) -> Option<HeldBlock>
     ensures same { IfSome result (λ held. stored_in held ≡ items_in block.now) }
     ensures shared { IfSome result (λ held. IsTrue (is_shared held)) }
@@ -44,10 +43,10 @@ fn ready(alloc: Global, block: &Block, keeps_rows: bool) -> Option<HeldBlock>
 }
 
 impl HeldBlock {
-    /// Makes a block of this archive alone ready to be shared, its rows packed. The archive's last
-    /// one keeps its rows beside these, if each is held as a lone sample. Answers whether it did.
-    /// Without memory for that the block stays as it is, and gives back the memory that its lists
-    /// don't need.
+    /// Makes a block of this archive's own ready to be shared, its rows packed. The archive's last
+    /// one also keeps its rows, if each is held as a lone sample. Returns whether it did. Without
+    /// memory for that, the block stays as it is, and gives back the memory that its lists don't
+    /// need.
     pub(crate) fn finish(&mut self, alloc: Global, is_last: bool) -> bool
         ensures same { stored_in self.new ≡ stored_in self.old }
         ensures shared { IsTrue result → IsTrue (is_shared self.new) }
@@ -68,8 +67,8 @@ impl HeldBlock {
     }
 
     /// Whether it is finished, and has the same rows as a block of another archive. Rows as they
-    /// came are compared with these; for packed ones these are packed too, and the bytes compared.
-    /// Without memory for that it answers no.
+    /// came are compared with the other's; for packed ones, the other's are packed too, and the
+    /// bytes compared. Without memory for that, it isn't.
     fn has_rows_of(&self, alloc: Global, block: &Block) -> bool
         ensures same { IsTrue result → stored_in self.now ≡ items_in block.now }
         ensures shared { IsTrue result → IsTrue (is_shared self.now) }
@@ -84,8 +83,8 @@ impl HeldBlock {
         }
     }
 
-    /// Shares the block of another archive in place of the own one, if it is finished and both hold
-    /// the same rows. Answers whether it did.
+    /// Shares the block of another archive in place of its own, if that is finished and both hold
+    /// the same rows. Returns whether it did.
     pub(crate) fn share(&mut self, alloc: Global, other: &HeldBlock) -> bool
         ensures same { stored_in self.new ≡ stored_in self.old }
         ensures shared { IsTrue result → IsTrue (is_shared self.new) }
@@ -103,7 +102,7 @@ impl HeldBlock {
         true
     }
 
-    /// Keeps the packed rows alone of a block that has both. Answers whether it did.
+    /// Keeps only the packed rows of a block that has both. Returns whether it did.
     pub(crate) fn keep_packed(&mut self) -> bool
         ensures same { stored_in self.new ≡ stored_in self.old }
         ensures shared { IsTrue result → IsTrue (is_shared self.new) }

@@ -17,20 +17,20 @@ use rr_schema::Origin;
 use std::alloc::{AllocError, Global};
 use std::sync::Arc;
 
-/// A block as an archive holds it. One that is shared never changes: an archive that has to change
-/// it takes the same rows in a block of its own in its place.
+/// A block as an archive holds it. A shared one never changes: an archive that has to change it
+/// takes a block of its own with the same rows in its place.
 #[derive(Drop)]
 pub(crate) enum HeldBlock {
-    /// The archive alone has it.
+    /// Only this archive has it.
     Own(Box<Block>),
-    /// It was finished last, and its rows are held as they came, beside the packed ones. Others may
-    /// have them too.
+    /// It was finished last, and its rows are held both as they came and packed. Others may have
+    /// them too.
     Finished(Arc<FinishedRows>),
     /// It is finished, and its rows are packed. Others may have them too.
     Packed(Arc<PackedRows>),
 }
 
-/// The rows of a block, in one of an archive's own.
+/// The rows of a block, in one of the archive's own.
 fn own_copy(held: &HeldBlock, alloc: Global) -> Result<Block, AllocError>
     ensures { IfOk result (λ new. items_in new ≡ stored_in held.now) }
 {
@@ -41,7 +41,7 @@ fn own_copy(held: &HeldBlock, alloc: Global) -> Result<Block, AllocError>
     }
 }
 
-/// The rows of a block in one of an archive's own, with room for an entry of an origin in a row.
+/// The rows of a block in one of the archive's own, with room for an entry of an origin in a row.
 fn copy_with_room(
     held: &HeldBlock,
     alloc: Global,
@@ -56,7 +56,7 @@ fn copy_with_room(
     Ok(own)
 }
 
-/// The rows of a block in one of an archive's own, with the entry of an origin in a row changed.
+/// The rows of a block in one of the archive's own, with the entry of an origin in a row changed.
 fn changed_copy(
     held: &HeldBlock,
     alloc: Global,
@@ -76,7 +76,7 @@ fn changed_copy(
 }
 
 impl HeldBlock {
-    /// A block without an entry, of one archive.
+    /// A block without entries, of one archive.
     pub(crate) fn new(alloc: Global) -> Result<HeldBlock, AllocError>
         ensures { IfOk result (λ new. (number : ℕ) → stored_in new number ≡ []) }
     {
@@ -95,7 +95,7 @@ impl HeldBlock {
     }
 
     /// Makes room for an entry of an origin in a row, in a block of this archive's own. The rows of
-    /// one that is shared are copied first, or unpacked.
+    /// a shared one are copied first, or unpacked.
     #[inline(always)]
     pub(crate) fn make_room(
         &mut self,
@@ -115,8 +115,8 @@ impl HeldBlock {
         Ok(())
     }
 
-    /// Changes the entry of an origin in a row. The rows of a block that is shared are copied first,
-    /// or unpacked.
+    /// Changes the entry of an origin in a row. The rows of a shared block are copied first, or
+    /// unpacked.
     #[inline(always)]
     pub(crate) fn change(
         &mut self,
@@ -139,7 +139,7 @@ impl HeldBlock {
         Ok(())
     }
 
-    /// The same rows: shared, or copied where the block is of this archive alone.
+    /// The same rows: shared, or copied if the block is this archive's own.
     pub(crate) fn copy(&self, alloc: Global) -> Result<HeldBlock, AllocError>
         ensures same { IfOk result (λ new. stored_in new ≡ stored_in self.now) }
         ensures shared { IfOk result (λ new. is_shared new ≡ is_shared self.now) }

@@ -1,10 +1,9 @@
 //! One archive of one series, packed: a row of one sample takes no more memory than its sample, and
 //! finished rows are held as packed bytes.
 //!
-//! A [`PackedArchive`] holds the same cells as a `PlainArchive` or a `RingArchive`, and is seen as
-//! the same map. Its rows are kept in blocks of 64 slots that follow one another: the newest in
-//! place, the older ones in a list in order of their numbers. A row that no sample came to takes
-//! nothing.
+//! A [`PackedArchive`] holds the same cells as a `PlainArchive` or a `RingArchive`, and contracts
+//! see it as the same map. Its rows are kept in blocks of 64 consecutive slots: the newest in
+//! place, the older ones in a list in order of their numbers. A row without samples takes nothing.
 //!
 //! ```text
 //! a slot ── its block's number ──> an own block ── a bit of its masks ──> a sample, or the entries
@@ -15,18 +14,18 @@
 //! In a block that samples come to, a row of a single sample is held as that sample, a
 //! [`LoneSample`](lone_sample::LoneSample), if its origin and its place are those of the block's
 //! other lone samples. A lone sample stands for the contribution that `Contribution::first` makes
-//! of the sample. Any other row is held as its entries.
+//! from it. Any other row is held as its entries.
 //!
 //! A finished block is held as [`PackedRows`](packed_rows::PackedRows): the bytes of its cells, as
-//! `rr_codec` packs them. The one that was finished last keeps its rows beside these, as
+//! `rr_codec` packs them. The one finished last also keeps its rows, as
 //! [`FinishedRows`](finished_rows::FinishedRows), if each is a lone sample. Archives share a
-//! finished block ([`HeldBlock`](held_block::HeldBlock)): one makes its own ready, and another takes
-//! it in place of its own where both have the same rows, or are packed as the same bytes. So rows of
-//! lone samples are packed once for all archives that take them in their turn. A change of a
+//! finished block ([`HeldBlock`](held_block::HeldBlock)): one makes its own ready, and another
+//! takes it in place of its own if both have the same rows, or are packed as the same bytes. So
+//! rows of lone samples are packed once for all archives that take them in turn. Changing a
 //! finished block copies its rows, or unpacks them.
 //!
-//! What is stored of a slot is one function (`specs/Blocks.antt`), and the cells are what it gives
-//! of the live slots, in order.
+//! What is stored for a slot is one function (`specs/Blocks.antt`), and the cells are what it gives
+//! for the live slots, in order.
 #![tactic(auto)]
 
 mod block;

@@ -1,4 +1,4 @@
-//! A sample, as a row that it alone came to is held.
+//! A sample, as a row with no other is held.
 ghost use Rattle.std.specs.Prelude.{◌≡◌, ◌<◌, ◌≤◌, [], IsTrue, IfSome};
 ghost use Rattle.rr_archive.specs.Changes.{entry_after};
 ghost use Rattle.rr_text.specs.declared.limits.TheConstants.{MAX_NUMBER, MAX_STEPS};
@@ -31,7 +31,7 @@ pub(crate) struct Source {
     ghost in_slot: { place < MAX_STEPS },
 }
 
-/// Whether a contribution is of one sample, of the place that a source has.
+/// Whether a contribution is of one sample, at the place of a source.
 fn is_of_one(contribution: &Contribution, source: &Source) -> bool
     ensures { IsTrue result → contribution.now
         ≡ of_one (slot_sample contribution.now.version source.now.place contribution.now.last_time
@@ -86,7 +86,7 @@ impl LoneSample {
         Some((source, sample))
     }
 
-    /// What a change makes of a row without an entry, as a lone sample with its source, if it is of
+    /// The lone sample that a change makes of a row without an entry, with its source, if it is of
     /// one sample.
     #[inline(always)]
     pub(crate) fn after(origin: Origin, change: &Change) -> Option<(Source, LoneSample)>
@@ -111,7 +111,7 @@ impl LoneSample {
         }
     }
 
-    /// The entry of a row of this sample alone.
+    /// The entry of a row with only this sample.
     pub(crate) fn entry(&self, source: &Source) -> Entry
         ensures { result ≡ entry_of source.now self.now }
     {

@@ -1,4 +1,4 @@
-//! What blocks store of a slot, and of those after it.
+//! What blocks store for a slot, and for those after it.
 ghost use Rattle.std.specs.Prelude.{◌≡◌, ◌+◌, ◌++◌, ◌≤◌, ◌+ℤ◌, ◌≤ℤ◌, pos, length, slice_get, vec_capacity, IfOk, IsOk, OnOk};
 ghost use Rattle.std.specs.List.{find};
 ghost use Rattle.std.specs.Option.{option_map};
@@ -29,8 +29,8 @@ impl Blocks {
         }
     }
 
-    /// The first entry of a slot, if it is later than an origin's, or the first after the origin in
-    /// its own.
+    /// The first entry of a slot, if it is later than the origin's; else its first after the
+    /// origin.
     pub(crate) fn first_after(&self, slot: i64, is_later: bool, origin: Origin) -> Option<Entry>
         ensures { result ≡ find (is_after is_later origin) (row_at self.now slot) }
     {
@@ -41,7 +41,7 @@ impl Blocks {
         }
     }
 
-    /// The entry of a slot by its number there, from 0.
+    /// The `i`th entry of a slot, from 0.
     pub(crate) fn nth_entry(&self, slot: i64, i: usize) -> Option<Entry>
         ensures { result ≡ slice_get (row_at self.now slot) i }
     {
@@ -52,8 +52,8 @@ impl Blocks {
         }
     }
 
-    /// The cell by its number, from 0, among those of some slots from one on. Each of the slots
-    /// before it is looked at, so they are to be few.
+    /// The `i`th cell, from 0, among those of `slots` slots from `slot` on. Each of the slots
+    /// before it is looked at, so they should be few.
     pub(crate) fn nth_cell(&self, slot: i64, slots: u32, i: usize) -> Option<(i64, Entry)>
         requires { slot ≤ℤ pos MAX_SECOND }
         ensures { result
@@ -71,8 +71,8 @@ impl Blocks {
         None
     }
 
-    /// Adds the cells of a run of slots from one on to a list, and answers how many slots the run
-    /// is of: what is left of a block, or slots that store nothing.
+    /// Adds the cells of a run of slots from `slot` on to a list, and returns how many slots the
+    /// run has: the rest of a block, or slots that store nothing.
     pub(crate) fn cells_into(
         &self,
         slot: i64,

@@ -5,14 +5,14 @@ ghost use Rattle.rr_packed.specs.Sparse.{rank};
 
 use crate::row_number::{RowNumber, RowRange};
 
-/// How many of a mask's bits are set, of those of some rows.
+/// How many of a mask's bits are set for some rows.
 pub(crate) fn ones_on(mask: u64, rows: RowRange) -> usize
     ensures { rank mask rows.first.value + result ≡ rank mask (rows.first.value + rows.count) }
 {
     (mask >> rows.first.value << (64 - rows.count)).count_ones() as usize
 }
 
-/// How many numbers on from one the next is whose bit is set, or 64 is.
+/// The distance from a number to the next whose bit is set, or to 64.
 pub(crate) fn next_on(mask: u64, number: RowNumber) -> u32
     ensures some { 1 ≤ result }
     ensures within { number.value + result ≤ 64 }

@@ -18,42 +18,42 @@ use rr_archive::{Cells, Entry};
 use rr_schema::Origin;
 use std::alloc::{AllocError, Global};
 
-/// The cells of one archive of one series, packed. 64 rows that follow one another are a block,
-/// which is the archive's own, or finished.
+/// The cells of one archive of one series, packed. 64 consecutive rows make a block, which is the
+/// archive's own, or finished.
 ///
-/// An own block takes 24 bytes for a row of one sample, and none for a row that no sample came to.
+/// A block of its own takes 24 bytes for a row of one sample, and none for a row without samples.
 /// The list of its rows takes memory for 1, 4, 16, 64. A finished block is held as the bytes of its
-/// cells, as `rr_codec` packs them; the last one keeps its rows beside them, if each is of one
-/// sample. Either takes 88 bytes beside that, a finished one a few words more. The newest block is
-/// held in place: a series with few rows takes no list of blocks. That of the older ones takes
-/// memory for 1, 2, 4, 8 .. blocks.
+/// cells, as `rr_codec` packs them; the last one also keeps its rows, if each is of one sample.
+/// Either takes 88 bytes besides, a finished one a few words more. The newest block is held in
+/// place: a series with few rows needs no list of blocks. The list of the older ones takes memory
+/// for 1, 2, 4, 8 .. blocks.
 ///
-/// `ready`, `put` and `join_cell` find the newest block in one step, and another in a time that is
+/// `ready`, `put` and `join_cell` find the newest block in one step, and another in time
 /// logarithmic in the blocks; they are linear in the entries of the row, in the rows of its block
-/// that are after it, and in the blocks that are past the horizon then. One that makes a block of
-/// an earlier slot moves the blocks before it, or those after it if these are fewer. One that is of
-/// a finished block copies its rows, or unpacks them: that is linear in its cells, and the block is
+/// after it, and in the blocks that are then past the horizon. A call that makes a block of an
+/// earlier slot moves the blocks before it, or those after it if these are fewer. A call for a
+/// finished block copies its rows, or unpacks them: that is linear in its cells, and the block is
 /// the archive's own from then on.
 ///
 /// `ready` makes room for a row of either kind, and `put` and `join_cell` give back what was made
-/// for entries where a block has none. A row of one sample that is to be changed is held as its
+/// for entries if a block has none. A row of one sample that is to be changed is held as its
 /// entries from then on, 112 bytes for the first of them.
 ///
-/// `share_rows` packs the block before the newest, and the one that was packed before it no longer
-/// keeps its rows. With another archive it compares the rows with those of that one's block, and
-/// takes this in place of its own where they are the same; if the other's keeps none, it packs its
-/// own, and compares the bytes. It goes on with the blocks before it, up to one that is packed
-/// already or can't be. Without memory to pack it, a block keeps its rows, and gives back the memory
-/// that its lists don't need.
+/// `share_rows` packs the block before the newest, and the one packed before it no longer keeps its
+/// rows. With another archive, it compares the rows with those of the other's block, and takes that
+/// block in place of its own if they are the same; if the other's keeps none, it packs its own, and
+/// compares the bytes. It goes on with the blocks before it, up to one that is already packed or
+/// can't be. Without memory to pack it, a block keeps its rows, and gives back the memory that its
+/// lists don't need.
 ///
-/// `entries_into` finds its block as `put` does. A look into packed rows reads the cells from the
-/// first on. A run of `cells_into` is what is left of a block, or of one that isn't there, or
-/// the slots up to the first block. `cell_count` finds each block between the first and the last,
-/// there or not, and is linear in these, in the rows that are held as their entries, and in the
-/// cells of the first block if it is packed. `cell_at` finds the blocks up to that of the cell as
-/// `cell_count` does, and looks at each row before it in that block; `next_cell`, and `cell_at` for
-/// the first cell, look at the rows from a slot on that have an entry, and are linear in the blocks
-/// between that aren't there, each at the cost of finding a block.
+/// `entries_into` finds its block as `put` does. Looking into packed rows reads the cells from the
+/// first on. A run of `cells_into` is the rest of a block, or of a missing one, or the slots up to
+/// the first block. `cell_count` looks for each block between the first and the last, there or not,
+/// and is linear in these, in the rows held as their entries, and in the cells of the first block
+/// if it is packed. `cell_at` finds the blocks up to that of the cell as `cell_count` does, and
+/// looks at each row before it in that block; `next_cell`, and `cell_at` for the first cell, look
+/// at the rows with an entry from a slot on, and are linear in the missing blocks between, each at
+/// the cost of finding a block.
 #[derive(Drop)]
 pub struct PackedArchive {
     rows: u32,
@@ -64,7 +64,7 @@ pub struct PackedArchive {
 }
 
 impl PackedArchive {
-    /// Changes the cell of a slot and an origin. A change that is past the horizon is passed over.
+    /// Changes the cell of a slot and an origin. A change past the horizon is ignored.
     #[inline(always)]
     fn change_cell(&mut self, slot: i64, origin: Origin, change: &Change) -> Result<(), AllocError>
         requires { CanTake (cells_in self.old.rows self.old.newest self.old.blocks)
@@ -88,7 +88,7 @@ impl PackedArchive {
         Ok(())
     }
 
-    /// The first cell. The rows before it are passed over by their masks, and no cell is counted.
+    /// The first cell. The rows before it are skipped by their masks, and no cell is counted.
     fn first_cell(&self) -> Option<(i64, Entry)>
         ensures { result ≡ option_map cell_of (slice_get
             (entries (cells_in self.now.rows self.now.newest self.now.blocks)) 0) }

@@ -15,10 +15,10 @@ use rr_codec::encode;
 use rr_schema::Origin;
 use std::alloc::{AllocError, Global};
 
-/// The rows of a block as packed bytes, as `rr_codec` has them. They never change. Reading a row
+/// The rows of a block as packed bytes, as `rr_codec` packs them. They never change. Reading a row
 /// costs as much as reading all cells up to its end.
 ///
-/// The mask has a bit for each row that has an entry, so that a walk passes over the others.
+/// The mask has a bit for each row that has an entry, so that a walk skips the others.
 #[derive(Drop)]
 pub(crate) struct PackedRows {
     mask: u64,
@@ -30,7 +30,7 @@ pub(crate) struct PackedRows {
 }
 
 /// Cells as packed bytes, in no more memory than they need; none without memory for it, or of 2^32
-/// cells and more.
+/// cells or more.
 fn packed(alloc: Global, cells: &[(i64, Entry)]) -> Option<Vec<u8>>
     ensures { IfSome result (λ bytes. packed_at bytes.items ≡ Ok (cells.now, [])) }
 {
@@ -46,7 +46,7 @@ fn packed(alloc: Global, cells: &[(i64, Entry)]) -> Option<Vec<u8>>
     }
 }
 
-/// Whether a row is one of some.
+/// Whether a row is one of these.
 fn is_in(number: RowNumber, rows: RowRange) -> bool
     ensures { result ≡ is_on rows.first.value rows.count (pos number.value) }
 {
@@ -71,7 +71,7 @@ impl PackedRows {
     }
 
     /// The rows of a block, packed in no more memory than they need; none without memory for it, or
-    /// of 2^32 entries and more. The cost is that of packing their cells.
+    /// of 2^32 entries or more. The cost is that of packing their cells.
     pub(crate) fn of(alloc: Global, block: &Block) -> Option<PackedRows>
         ensures { IfSome result (λ packed. items_packed packed.bytes.items ≡ items_in block.now) }
     {
@@ -86,7 +86,7 @@ impl PackedRows {
         })
     }
 
-    /// All cells, to read them in order.
+    /// All cells, to be read in order.
     fn cells(&self) -> CellsLeft<'_>
         ensures all { left_of result.decoder.cells ≡ cells_packed self.now.bytes.items }
         ensures rows { (number : ℕ) → entries_at (left_of result.decoder.cells) (pos number)
@@ -95,7 +95,7 @@ impl PackedRows {
         CellsLeft::of(&self.bytes)
     }
 
-    /// Whether other rows are packed as the same bytes, and so the same.
+    /// Whether other rows are packed as the same bytes, and so are the same.
     pub(crate) fn is_same(&self, other: &PackedRows) -> bool
         ensures { IsTrue result
             → items_packed self.now.bytes.items ≡ items_packed other.now.bytes.items }
@@ -103,7 +103,7 @@ impl PackedRows {
         self.bytes == other.bytes
     }
 
-    /// The same rows, in a block that can be changed. The cost is that of reading the cells, and of
+    /// The same rows, in a block that can be changed. The cost is that of reading the cells and
     /// adding each to its row.
     pub(crate) fn unpack(&self, alloc: Global) -> Result<Block, AllocError>
         ensures { IfOk result (λ block. items_in block ≡ items_packed self.now.bytes.items) }

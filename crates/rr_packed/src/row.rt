@@ -5,7 +5,7 @@ ghost use Rattle.rr_packed.specs.LoneSamples.{entries_of};
 use rr_archive::Entry;
 use std::slice;
 
-/// The entries of a row: lent, or the one that is made of its sample.
+/// The entries of a row: lent, or the one made from its sample.
 #[derive(Clone, Copy)]
 pub(crate) enum Row<'a> {
     Lent(&'a [Entry]),

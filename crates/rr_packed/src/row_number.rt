@@ -8,7 +8,7 @@ pub(crate) struct RowNumber {
     ghost fits: { value < 64 },
 }
 
-/// Rows that follow one another in a block, and the bits of a mask that are theirs.
+/// Consecutive rows of a block, and their bits in a mask.
 #[derive(Clone, Copy)]
 pub(crate) struct RowRange {
     pub(crate) first: RowNumber,

@@ -1,4 +1,4 @@
-//! What the rows of a block are read by, however they are held.
+//! The trait through which the rows of a block are read, however they are held.
 ghost use Rattle.std.specs.Prelude.{◌≡◌, ◌+◌, ◌-◌, ◌++◌, ◌≤◌, ◌≤ℤ◌, ℕ, pos, List, length, slice_get, vec_capacity, IsOk, OnOk};
 ghost use Rattle.std.specs.List.{find};
 ghost use Rattle.rr_text.specs.declared.limits.TheConstants.{MAX_SECOND};
@@ -24,16 +24,16 @@ pub(crate) trait Rows {
         ensures room { length row.old.items + length (items self.now number.value)
             ≤ vec_capacity row.old → IsOk result };
 
-    /// The first entry of a row, if it is in a later slot than an origin's, or the first after the
-    /// origin in its own.
+    /// The first entry of a row, if it is in a later slot than the origin's; else its first after
+    /// the origin.
     fn first_after(&self, number: RowNumber, is_later: bool, origin: Origin) -> Option<Entry>
         ensures { result ≡ find (is_after is_later origin) (items self.now number.value) };
 
-    /// The entry of a row by its number there, from 0.
+    /// The `i`th entry of a row, from 0.
     fn nth(&self, number: RowNumber, i: usize) -> Option<Entry>
         ensures { result ≡ slice_get (items self.now number.value) i };
 
-    /// Adds the cells of the rows from one on to a list, those of the slots from one on.
+    /// Adds the cells of the rows from `first` on to a list, in the slots from `slot` on.
     fn cells_into(
         &self,
         first: RowNumber,
@@ -44,8 +44,8 @@ pub(crate) trait Rows {
         ensures { OnOk result (run.new.items ≡ run.old.items
             ++ cells_of_rows (λ i. items self.now (first.value + i)) slot (64 - first.value)) };
 
-    /// How many numbers on from one the next is that has a row, or the block ends: those between
-    /// have no entry. The cost is constant.
+    /// The distance from a number to the next that has a row, or to the end of the block: those
+    /// between have no entry. The cost is constant.
     fn rows_on(&self, number: RowNumber) -> u32
         ensures { PassesOver 1 (64 - number.value) (λ i. items self.now (number.value + i))
             result };

@@ -8,9 +8,10 @@ use crate::held_block::HeldBlock;
 use std::alloc::{AllocError, Global};
 use std::collections::VecDeque;
 
-/// Makes a block of this archive alone ready to be shared; with another archive's blocks, takes the
-/// one of the same number in its place, if both hold the same rows. One that is ready already, but
-/// is to keep no rows as they came, keeps its packed rows alone. Answers whether it did one of these.
+/// Makes a block of this archive's own ready to be shared; with another archive's blocks, takes the
+/// one of the same number in its place, if both hold the same rows. One that is already ready, but
+/// must not keep its rows as they came, keeps only its packed rows. Returns whether it did any of
+/// these.
 fn share_block(
     block: &mut HeldBlock,
     alloc: Global,
@@ -38,7 +39,7 @@ fn share_block(
 
 impl Blocks {
     /// Whether the block at a place keeps its rows as they came once it is finished: it is the last
-    /// of the older ones, and those before it are finished already. Where blocks are finished
+    /// of the older ones, and the one before it, if any, is already shared. If blocks are finished
     /// together, as those of a snapshot are, none keeps them: all replicas have these blocks from
     /// then on, and need not compare them.
     fn keeps_rows(&self, at: usize) -> bool {
@@ -51,8 +52,8 @@ impl Blocks {
         }
     }
 
-    /// Shares the older blocks as [`share_block`] does one, from the last one back to one whose
-    /// packed rows are all that is kept, or that can't be shared.
+    /// Shares the older blocks as [`share_block`] does one, from the last back to one that keeps
+    /// only its packed rows, or that can't be shared.
     pub(crate) fn share(&mut self, others: Option<&Blocks>)
         ensures { row_at self.new ≡ row_at self.old }
     {
@@ -73,7 +74,7 @@ impl Blocks {
         }
     }
 
-    /// The newest block with its number, as `copy` has it.
+    /// The newest block with its number, as `copy` copies it.
     fn copy_newest(&self, alloc: Global) -> Result<Option<(i64, HeldBlock)>, AllocError>
         ensures { IfOk result (λ new. map stored (option_to_list new)
             ≡ map stored (option_to_list self.now.newest)) }
@@ -84,7 +85,7 @@ impl Blocks {
         }
     }
 
-    /// The same rows, in blocks that are shared where they were.
+    /// The same rows, in blocks that are shared if they were.
     pub(crate) fn copy(&self, alloc: Global) -> Result<Blocks, AllocError>
         ensures rows { IfOk result (λ new. row_at new ≡ row_at self.now) }
         ensures blocks { IfOk result (λ new. map stored (all_blocks new)

@@ -1,12 +1,12 @@
-//! Items of some of 64 numbers.
+//! Items for some of 64 numbers.
 ghost use Rattle.std.specs.Prelude.{◌≡◌, ◌<◌, ◌≤◌, ◌+◌, ℕ, insert, vec_capacity, slice_range, None, Some, IfSome, is_none, IsOk, OnOk, OnErr, count_ones, vec_len};
 
 use crate::mask::ones_on;
 use crate::row_number::{RowNumber, RowRange};
 use std::alloc::{AllocError, Global};
 
-/// Items of some of the numbers from 0 to 63, in order: a bit of the mask for each number that has
-/// one.
+/// Items for some of the numbers from 0 to 63, in order: the mask has a bit for each number that
+/// has one.
 #[derive(Drop)]
 pub(crate) struct Sparse<T> {
     pub(crate) mask: u64,
@@ -14,7 +14,7 @@ pub(crate) struct Sparse<T> {
     ghost counted: { count_ones mask ≡ vec_len items },
 }
 
-/// Inserts an item into a list. Mostly it comes last, where no other has to move.
+/// Inserts an item into a list. Usually it goes last, where no other has to move.
 #[inline(always)]
 fn insert_at<T: Drop>(items: &mut Vec<T>, at: usize, item: T) -> Result<(), AllocError>
     requires { at ≤ vec_len items.old }
@@ -47,7 +47,7 @@ impl<T: Drop> Sparse<T> {
         }
     }
 
-    /// How many items are of numbers before this one.
+    /// How many items belong to numbers before this one.
     fn rank(&self, number: RowNumber) -> usize
         ensures rank { result ≡ rank self.now.mask number.value }
         ensures at_most { result ≤ vec_len self.now.items }
@@ -96,14 +96,14 @@ impl<T: Drop> Sparse<T> {
         &self.items[from..to]
     }
 
-    /// Whether one item more takes no memory.
+    /// Whether one more item takes no memory.
     pub(crate) fn has_room(&self) -> bool
         ensures { result ≡ has_room self.now }
     {
         self.items.len() < self.items.capacity()
     }
 
-    /// Makes room for one item more. The list takes memory for 1, 4, 16, 64 items, since most
+    /// Makes room for one more item. The list takes memory for 1, 4, 16, 64 items, since most
     /// series have few rows.
     #[inline(always)]
     pub(crate) fn make_room(&mut self) -> Result<(), AllocError>
@@ -141,7 +141,7 @@ impl<T: Drop> Sparse<T> {
         Ok(())
     }
 
-    /// Takes the item of a number out, if it has one.
+    /// Removes the item of a number, if it has one.
     pub(crate) fn remove(&mut self, number: RowNumber)
         ensures removed { IsItemSet number.value None (item_in self.old) (item_in self.new) }
         ensures free { place_at self.new.mask number.value ≡ None }

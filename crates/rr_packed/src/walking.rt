@@ -1,4 +1,4 @@
-//! Walks over the slots of blocks, which pass over those that store nothing.
+//! Walks over the slots of blocks, skipping those that store nothing.
 ghost use Rattle.std.specs.Prelude.{◌≡◌, ◌<◌, ◌≤◌, ◌+ℤ◌, ℕ, pos, None, []};
 ghost use Rattle.rr_archive.specs.Stored.{PassesOver};
 ghost use Rattle.rr_packed.specs.BlockRows.{entries_in_all};
@@ -10,7 +10,7 @@ use crate::row_number::RowRange;
 use crate::rows::Rows;
 
 impl Blocks {
-    /// How many slots on from one the first block begins; 0 if it began before.
+    /// How many slots ahead the first block begins; 0 if it doesn't begin ahead.
     fn slots_to_first(&self, slot: i64) -> u128
         ensures { (i : ℕ) → i < result → row_at self.now (slot +ℤ pos i) ≡ [] }
     {
@@ -24,9 +24,8 @@ impl Blocks {
         ahead as u128
     }
 
-    /// How many slots on from one the next is to look at, at most `most`: nothing is stored of
-    /// those between. What is before the first block, and a block that isn't there, is passed over
-    /// in one step.
+    /// How many slots ahead the next one to look at is, at most `most`: nothing is stored for those
+    /// between. Slots before the first block, and a missing block, are skipped in one step.
     pub(crate) fn slots_on(&self, slot: i64, most: u32) -> u32
         ensures { PassesOver 1 most (λ i. row_at self.now (slot +ℤ pos i)) result }
     {
@@ -37,7 +36,7 @@ impl Blocks {
         }
     }
 
-    /// As `slots_on`, for a slot whose block isn't there: nothing is stored of it either.
+    /// Like `slots_on`, for a slot whose block is missing: nothing is stored for it either.
     pub(crate) fn missing_on(&self, slot: i64, most: u32) -> u32
         requires { block_at (all_blocks self.now) (block_of slot) ≡ None }
         ensures { PassesOver 0 most (λ i. row_at self.now (slot +ℤ pos i)) result }
@@ -46,8 +45,9 @@ impl Blocks {
         most.min(64 - row_of(slot).value).max(to_first)
     }
 
-    /// How many slots from one on are looked at in one step, at most `most`, and how many entries
-    /// are stored of them in all. A step ends with its block, or passes over slots as `slots_on`.
+    /// How many slots from `slot` on are looked at in one step, at most `most`, and how many
+    /// entries are stored for them in all. A step ends with its block, or skips slots as `slots_on`
+    /// does.
     pub(crate) fn entries_on(&self, slot: i64, most: u32) -> (u32, usize)
         requires { 1 ≤ most }
         ensures at_least_one { 1 ≤ result.0 }

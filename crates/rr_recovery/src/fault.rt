@@ -15,7 +15,7 @@ pub enum RecoveryFault {
     ReadFailed,
     /// A whole record means nothing.
     BadRecord(JournalFault),
-    /// A record or a cell is of the origin under which the replica is to write.
+    /// A record or a cell is of the replica's own origin, under which it is to write.
     OriginUsed,
     /// Memory ran out.
     Memory,
@@ -24,7 +24,7 @@ pub enum RecoveryFault {
 impl RecoveryFault {
     ghost use Rattle.rr_recovery.specs.Fault.{recovery_fault_name};
 
-    /// The printed name: the variant's, or that of the fault below.
+    /// The printed name: the variant's, or that of the fault within.
     pub fn name(&self) -> &'static str
         ensures { result.now ≡ recovery_fault_name self.now }
     {

@@ -1,4 +1,4 @@
-//! What a journal has besides cells.
+//! What a journal holds besides cells.
 ghost use Rattle.std.specs.Prelude.{◌≡◌, ◌↔◌, nat_eq, IsTrue, OnOk, Some};
 ghost use Rattle.std.specs.Cmp.Lexicographic.{pointwise};
 ghost use Rattle.std.specs.List.{position};
@@ -8,23 +8,23 @@ use rr_journal::Cursor;
 use rr_schema::Origin;
 use std::alloc::{AllocError, Global};
 
-/// What was found in the files of a journal besides cells: it is kept from file to file.
+/// What was found in the files of a journal besides cells, carried from file to file.
 #[derive(Debug, Drop)]
 pub struct Found {
-    /// The origin of the last record of one: samples were written under it last.
+    /// The origin of the last record that names one: the last samples were written under it.
     pub origin: Option<Origin>,
-    /// For each journal that was joined, up to where.
+    /// For each journal that was joined, how far.
     pub cursors: Vec<Cursor>,
-    /// How many cells the last checkpoint says that it has.
+    /// How many cells the last checkpoint says it has.
     pub end: Option<u64>,
-    /// How many records were read. It stops at its greatest value.
+    /// How many records were read. It saturates.
     pub records: u64,
-    /// How many cells were read. It stops at its greatest value.
+    /// How many cells were read. It saturates.
     pub cells: u64,
 }
 
 impl Found {
-    /// Nothing yet. Takes no memory.
+    /// Nothing found yet. Takes no memory.
     pub fn new(alloc: Global) -> Found
         ensures { found_state result ≡ nothing_found }
     {
@@ -44,8 +44,8 @@ impl Found {
         self.records = self.records.saturating_add(1);
     }
 
-    /// Whether a checkpoint is whole, if its file is all that was read: its end was found, and
-    /// states as many cells as were read.
+    /// Whether a checkpoint is whole, if only its file was read: its end was found, and states as
+    /// many cells as were read.
     pub fn is_whole(&self) -> bool
         ensures { IsTrue result ↔ (self.now.end ≡ Some self.now.cells) }
     {
@@ -53,7 +53,7 @@ impl Found {
     }
 }
 
-/// Where the cursor of a cursor's journal is, if there is one.
+/// The index of the cursor of the same journal, if there is one.
 fn place_of(cursors: &[Cursor], cursor: &Cursor) -> Option<usize>
     ensures { result ≡ position (λ c. pointwise nat_eq c.id cursor.now.id) cursors.now }
 {
@@ -62,8 +62,7 @@ fn place_of(cursors: &[Cursor], cursor: &Cursor) -> Option<usize>
         .position(|known: &Cursor| known.id == cursor.id)
 }
 
-/// Puts a cursor in place of that of its journal, or behind all. The cost is linear in the
-/// cursors.
+/// Replaces the cursor of the same journal, or appends this one. The cost is linear in the cursors.
 pub fn put_cursor(cursors: &mut Vec<Cursor>, cursor: Cursor) -> Result<(), AllocError>
     ensures { OnOk result (cursors.new.items ≡ with_cursor cursors.old.items cursor) }
 {

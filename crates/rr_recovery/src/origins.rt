@@ -19,14 +19,14 @@ use std::io::Read;
 /// The kind of records of an origin.
 const ORIGIN: u8 = 2;
 
-/// What is added to the kind of a record that is the first one after a sync.
+/// What is added to the kind of the first record after a sync.
 const FIRST: u8 = 128;
 
 const _: () = prove!(ORIGIN == 2);
 
 const _: () = prove!(FIRST == 128);
 
-/// The origin that a record is of, if it is of one.
+/// The origin that a record names, if any.
 fn origin_in(meaning: &Record) -> Option<Origin>
     ensures { (origin : ℕ) → meaning_of meaning.now ≡ HasOrigin origin → result ≡ Some origin }
 {
@@ -36,7 +36,7 @@ fn origin_in(meaning: &Record) -> Option<Origin>
     }
 }
 
-/// The origin of a record, if it is one of an origin; else the one before it.
+/// The origin of a record, if it is one of an origin; else `before`.
 fn origin_after(
     alloc: Global,
     before: Option<Origin>,
@@ -53,11 +53,11 @@ fn origin_after(
     Ok(origin_in(&meaning))
 }
 
-/// Goes through the records at `place` up to where none is whole, and answers why none follows and
-/// the origin of the last record of an origin, if there is one: so that a node can choose the next
-/// one before it replays them. `place` is then behind the last whole record. Cells aren't looked at.
+/// Goes through the records at `place` until none is whole, and returns why none follows and the
+/// origin of the last record of an origin, if any, so that a node can choose the next one before it
+/// replays them. `place` is then past the last whole record. Cells aren't looked at.
 ///
-/// Refused as `ReadFailed`, as `BadRecord` at the first record of an origin that means none, and as
+/// Refused as `ReadFailed`, as `BadRecord` at the first record of an origin that means none, or as
 /// `Memory`. The cost is linear in the bytes.
 pub fn last_origin<R: Read>(
     alloc: Global,
@@ -76,6 +76,6 @@ pub fn last_origin<R: Read>(
             Step::Stopped(stop) => return Ok((stop, origin)),
         }
     }
-    // No host reads so many records.
+    // No host reads that many records.
     Err(RecoveryFault::Memory)
 }

@@ -19,17 +19,16 @@ use rr_schema::Schema;
 use std::alloc::Global;
 use std::io::Read;
 
-/// Reads the records at `place` up to where none is whole, and takes each: its cells are joined into
-/// the replica, in order, and what it has besides is kept in `found`. `place` is then behind the
-/// last whole record, and the answer says why none follows. One record is in memory at a time, and
-/// its cells are unpacked one by one.
+/// Reads the records at `place` until none is whole, and takes each: its cells are joined into the
+/// replica, in order, and what else it holds is kept in `found`. `place` is then past the last
+/// whole record, and the result says why none follows. One record is in memory at a time, and its
+/// cells are unpacked one by one.
 ///
-/// Of the records in order the first that can't be taken is refused before anything behind it is
-/// read: as `BadRecord` where it means nothing, and as `OriginUsed` where it is of the replica's own
-/// origin or has a cell of it. `ReadFailed` comes where a read fails, `Memory` where memory runs
-/// out. After a refusal some cells of the journal are joined, under the same schema and origin: the
-/// replica and `found` are of no further use. The cost is linear in the bytes, and that of joining
-/// the cells.
+/// The first record that can't be taken is refused before anything after it is read: as `BadRecord`
+/// if it means nothing, and as `OriginUsed` if it is of the replica's own origin or has a cell of
+/// it. `ReadFailed` comes if a read fails, `Memory` if memory runs out. After a refusal some cells
+/// of the journal are joined, under the same schema and origin: the replica and `found` are of no
+/// further use. The cost is linear in the bytes, plus that of joining the cells.
 pub fn replay<A: Cells, R: Read>(
     alloc: Global,
     input: &mut Counted<R>,
@@ -42,7 +41,7 @@ pub fn replay<A: Cells, R: Read>(
     ensures read { IfSome (R.remaining (inner_of input.old)) (λ bytes.
         Replays place.old place.new (recovery replica.old found.old)
         (recovery replica.new found.new) bytes result) }
-    // Whatever the input is, and whatever the answer.
+    // Whatever the input and the result.
     ensures joins { JoinsSome (replica_state replica.old) (replica_state replica.new) }
     ensures failed { result ≡ Err RecoveryFault.ReadFailed → HasFailed input.old input.new }
 {
@@ -52,6 +51,6 @@ pub fn replay<A: Cells, R: Read>(
             Step::Stopped(stop) => return Ok(stop),
         }
     }
-    // No host reads so many records.
+    // No host reads that many records.
     Err(RecoveryFault::Memory)
 }

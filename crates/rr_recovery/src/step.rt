@@ -1,4 +1,4 @@
-//! Records of a stream, with a recovery's faults.
+//! Records from a stream, with a recovery's faults.
 ghost use Rattle.std.specs.Prelude.{◌≡◌, ◌⊎◌, ◌^◌, ◌<◌, Err, IfErr};
 ghost use Rattle.rr_io.specs.Counted.{inner_of};
 ghost use Rattle.rr_io.specs.Stream.{HasFailed, KeepsFailures, ReadsSome};
@@ -10,7 +10,7 @@ use rr_journal::{Cursor, JournalFault, Step, read_record};
 use std::alloc::Global;
 use std::io::Read;
 
-/// A fault of a stream.
+/// The fault of a stream, as a recovery's.
 fn stream_fault(fault: JournalFault) -> RecoveryFault
     requires { IsStreamFault fault }
     ensures faults { (result ≡ RecoveryFault.ReadFailed) ⊎ (result ≡ RecoveryFault.Memory) }
@@ -23,7 +23,7 @@ fn stream_fault(fault: JournalFault) -> RecoveryFault
     }
 }
 
-/// Reads the record at a place, and moves the place behind it.
+/// Reads the record at `place`, and moves `place` past it.
 pub(crate) fn step_from<R: Read>(
     alloc: Global,
     input: &mut Counted<R>,

@@ -1,4 +1,4 @@
-//! What a record makes of a replica.
+//! Taking records into a replica.
 ghost use Rattle.std.specs.Prelude.{◌≡◌, ◌<◌, [], ◌∷◌, length, map, slice_get, Some, IfOk, IsTrue};
 ghost use Rattle.std.specs.List.{flat_map, AllByRecursion};
 ghost use Rattle.rr_cells.specs.Listing.{owned_cell};
@@ -33,7 +33,7 @@ fn cell_of(group: &Group, cell: &(i64, Entry)) -> Result<Cell, AllocError>
     })
 }
 
-/// Joins a cell of a group, whose series has this number, unless it is of the replica's own origin.
+/// Joins a cell of a group whose series has this number, unless it is of the replica's own origin.
 fn take_cell<A: Cells>(
     group: &Group,
     series: usize,
@@ -53,7 +53,7 @@ fn take_cell<A: Cells>(
     if cell.1.origin == replica.origin() {
         return Err(RecoveryFault::OriginUsed);
     }
-    // The proof needs what the key and the origin keep to, which these ensure.
+    // The proof needs the invariants of the key and the origin, which these ensure.
     let _text = group.key.text();
     let _number = cell.1.origin.get();
     let cell = cell_of(group, cell)?;
@@ -62,7 +62,7 @@ fn take_cell<A: Cells>(
     Ok(())
 }
 
-/// Joins the cells of a group, whose series has this number, one by one, up to the first of the
+/// Joins the cells of a group whose series has this number, one by one, up to the first of the
 /// replica's own origin.
 fn take_cells<A: Cells>(
     group: &Group,
@@ -83,7 +83,7 @@ fn take_cells<A: Cells>(
     Ok(())
 }
 
-/// Joins the cells of a group, up to the first of the replica's own origin. The series is looked for
+/// Joins the cells of a group, up to the first of the replica's own origin. The series is looked up
 /// once.
 fn take_group<A: Cells>(
     group: &Group,
@@ -116,7 +116,7 @@ fn take_groups<A: Cells>(
     Ok(())
 }
 
-/// Finds an origin, unless it is the replica's own.
+/// Keeps an origin in `found`, unless it is the replica's own.
 fn take_origin<A: Cells>(
     origin: Origin,
     replica: &Replica<A>,
@@ -148,7 +148,7 @@ pub(crate) fn meaning_of(
     }
 }
 
-/// Counts a record, and joins its cells or finds what it has besides.
+/// Counts a record, and joins its cells or keeps in `found` what it holds instead.
 pub(crate) fn take_record<A: Cells>(
     alloc: Global,
     raw: &RawRecord,

@@ -10,7 +10,7 @@ use rr_cells::{Cell, Op};
 use rr_schema::{Origin, Schema};
 use std::alloc::{AllocError, Global};
 
-/// An archive that holds no cell, for each of a schema's.
+/// An archive without cells for each of a schema's.
 pub(crate) fn empty_archives<A: Cells>(alloc: Global, schema: &Schema) -> Result<Vec<A>, AllocError>
     ensures of_schema { IfOk result (λ archives. AreOf A.row_limit schema.now archives.items) }
     ensures empty { IfOk result (λ archives. Each (λ i a. A.cells a ≡ fin.empty) archives.items) }
@@ -22,8 +22,8 @@ pub(crate) fn empty_archives<A: Cells>(alloc: Global, schema: &Schema) -> Result
     Ok(archives)
 }
 
-/// Makes room for a sample of a time and an origin in each archive from the one with a number on,
-/// and changes no cell.
+/// Makes room for a sample of a time and an origin in each archive from number `first` on, and
+/// changes no cell.
 #[inline(always)]
 fn make_ready<A: Cells>(
     archives: &mut Vec<A>,
@@ -79,7 +79,7 @@ pub(crate) fn store_in<A: Cells>(
     Ok(())
 }
 
-/// Joins a cell into the archive that it is of, or into none.
+/// Joins a cell into its archive, or into none.
 pub(crate) fn join_into<A: Cells>(
     archives: &mut Vec<A>,
     schema: &Schema,
@@ -89,7 +89,8 @@ pub(crate) fn join_into<A: Cells>(
     ensures { TakeCell A.cells A.row_limit A.is_ready schema.now cell.now archives.old.items
         archives.new.items result }
 {
-    // It is the cell's own slot, since the cell is valid; as that of a time it is within bounds.
+    // This is the cell's own slot, since the cell is valid; as the slot of a time, it is within
+    // bounds.
     let slot = schema.slot(cell.archive, cell.contribution.last_time);
     let archive = &mut archives[cell.archive as usize];
     archive.join_cell(slot, cell.origin, &cell.contribution)

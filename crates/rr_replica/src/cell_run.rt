@@ -1,4 +1,4 @@
-//! Cells of one archive that follow one another, read together.
+//! Consecutive cells of one archive, read together.
 ghost use Rattle.std.specs.Prelude.{◌≡◌, [], Some, IfSome};
 ghost use Rattle.std.specs.Option.{option_map};
 ghost use Rattle.rr_archive.specs.CellSlots.{cell_slot};
@@ -9,14 +9,14 @@ use rr_archive::{Cells, Entry};
 use rr_schema::Origin;
 use std::alloc::Global;
 
-/// Cells of one archive that follow one another, and the place of the one that was given last.
+/// Consecutive cells of one archive, and the place of the one given last.
 #[derive(Drop)]
 pub(crate) struct CellRun {
     pub(crate) cells: Vec<(i64, Entry)>,
     at: usize,
 }
 
-/// Where a cell is among these, or their number.
+/// The place of a cell among these, or their count if it isn't there.
 fn place_of(cells: &[(i64, Entry)], cell: &(i64, Entry)) -> usize {
     for i in 0..cells.len() {
         if cells[i].0 == cell.0 && cells[i].1.origin == cell.1.origin {
@@ -26,7 +26,7 @@ fn place_of(cells: &[(i64, Entry)], cell: &(i64, Entry)) -> usize {
     cells.len()
 }
 
-/// Reads the run that an archive has from a slot on. Where memory runs out, it has no cell.
+/// Reads the run that an archive has from a slot on. If memory runs out, it has no cell.
 fn read_run<A: Cells>(archive: &A, slot: i64, run: &mut Vec<(i64, Entry)>)
     ensures { AreInTurn (A.cells archive.now) run.new.items }
 {
@@ -47,15 +47,15 @@ impl CellRun {
         }
     }
 
-    /// Leaves no cell in it.
+    /// Removes all cells from it.
     pub(crate) fn clear(&mut self)
         ensures { self.new.cells.items ≡ [] }
     {
         self.cells.clear();
     }
 
-    /// The cell behind that of a slot and an origin, if this one was given last and the run goes
-    /// on. The cost is constant.
+    /// The cell after that of a slot and an origin, if that one was given last and the run goes on.
+    /// The cost is constant.
     fn behind(&mut self, slot: i64, origin: Origin) -> Option<(i64, Entry)>
         ensures same { self.new.cells ≡ self.old.cells }
         ensures next { IfSome result (λ cell. (own : ArchiveCells)
@@ -72,7 +72,7 @@ impl CellRun {
     }
 
     /// The first cell of an archive after a slot and an origin, as `Cells::next_cell` gives it. If
-    /// it is in the run, behind the one that was given last, the cost is constant, and else that of
+    /// it is in the run, after the one given last, the cost is constant; otherwise it is that of
     /// `Cells::next_cell` and of reading a run.
     pub(crate) fn next_cell<A: Cells>(
         &mut self,

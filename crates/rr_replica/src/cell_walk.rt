@@ -14,8 +14,8 @@ use rr_schema::Origin;
 use std::alloc::Global;
 use std::marker::Model;
 
-/// A walk over the cells of a replica in their order, for those who read one after the other: it
-/// reads a run of the cells of an archive at a time. It is seen as the replica, which it lends.
+/// A walk over the cells of a replica in their order, for reading one after the other: it reads a
+/// run of the cells of an archive at a time. Contracts see it as the replica, which it lends.
 #[derive(Drop)]
 pub struct CellWalk<'a, A: Cells> {
     replica: &'a Replica<A>,
@@ -51,10 +51,10 @@ impl<'a, A: Cells> CellWalk<'a, A> {
 
     /// The first cell after a name, as [`Replica::next_cell`] gives it.
     ///
-    /// At the name of the cell that was given last the cost is that of comparing two keys, or where
-    /// the run ends that of the archive's `next_cell` and of reading a run. Where the walk leaves
-    /// the archive it is that of [`Replica::next_cell`] and one look-up of a key. Where memory runs
-    /// out no run is read, and the walk goes on by the archive's `next_cell`.
+    /// At the name of the cell given last, the cost is that of comparing two keys or, where the run
+    /// ends, that of the archive's `next_cell` and of reading a run. Where the walk leaves the
+    /// archive, it is that of [`Replica::next_cell`] and one lookup of a key. If memory runs out,
+    /// no run is read, and the walk goes on with the archive's `next_cell`.
     pub fn next_cell(
         &mut self,
         key: &SeriesKey,
@@ -67,7 +67,7 @@ impl<'a, A: Cells> CellWalk<'a, A> {
             (next_cell self.old.cells (cell_name key.now archive slot origin)) result }
     {
         let replica = self.replica;
-        // The proof needs what the replica keeps to, which `schema` ensures.
+        // The proof needs the replica's invariant, which `schema` ensures.
         let _schema = replica.schema();
         if let Some(cell) = self.next_here(key, archive, slot, origin) {
             return Some(cell);
@@ -101,7 +101,7 @@ impl<'a, A: Cells> CellWalk<'a, A> {
         Some(named(own.key, own.number, cell))
     }
 
-    /// Goes on in the archive of a cell.
+    /// Enters the archive of a cell.
     fn enter(&mut self, cell: &CellRef<'a>)
         ensures { self.new ≡ self.old }
     {

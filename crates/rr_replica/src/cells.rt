@@ -17,26 +17,24 @@ use rr_schema::Origin;
 use std::alloc::{AllocError, Global};
 
 impl<A: Cells> Replica<A> {
-    /// How many cells there are; the greatest value of the type, where it can't hold that many. The
-    /// cost is linear in the series.
+    /// How many cells there are. It saturates. The cost is linear in the series.
     pub fn cell_count(&self) -> usize
         ensures { result ≡ at_most_usize (fin.len self.now.cells) }
     {
         count_cells(&self.series)
     }
 
-    /// The cell with a number, from 0, in order of key, archive, slot and origin. The cost is
-    /// linear in the series before it, each passed over by its count, and in the rows of its
-    /// archive.
+    /// The `i`th cell, from 0, in order of key, archive, slot and origin. The cost is linear in the
+    /// series before it, each skipped by its count, and in the rows of its archive.
     pub fn cell_at(&self, i: usize) -> Option<CellRef<'_>>
         ensures { LendsCell self.now.schema (slice_get (fin.entries self.now.cells) i) result }
     {
         nth_cell(&self.series, i)
     }
 
-    /// The first cell after a name, in the same order, whether or not a cell is there. The cost is
-    /// one look-up of the key and that of the archives' `next_cell`: no series before the key is
-    /// walked over.
+    /// The first cell after a name, in the same order, whether or not a cell has that name. The
+    /// cost is one lookup of the key and that of the archives' `next_cell`: no series before the
+    /// key is walked over.
     pub fn next_cell(
         &self,
         key: &SeriesKey,
@@ -56,7 +54,7 @@ impl<A: Cells> Replica<A> {
         next_cell(&self.series, &name)
     }
 
-    /// The archive of a key with a number, if it has one. The cost is one look-up of the key.
+    /// The archive of a key by number, if it has one. The cost is one lookup of the key.
     pub(crate) fn key_archive(&self, key: &SeriesKey, number: u8) -> Option<KeyArchive<'_, A>>
         ensures { IfSome result (λ own.
             IsNextOfAll self.now.cells own.key.now own.number (A.cells own.archive.now)) }
@@ -64,8 +62,8 @@ impl<A: Cells> Replica<A> {
         key_archive(&self.series, key, number)
     }
 
-    /// As many cells as `count` from an offset on, in the same order; fewer where there are fewer.
-    /// The cost is that of `cell_at` for the first, and for each further cell that of
+    /// The `count` cells from an offset on, in the same order; fewer if there are fewer. The cost
+    /// is that of `cell_at` for the first, and for each further cell that of
     /// [`CellWalk::next_cell`].
     pub fn cells_from(
         &self,
@@ -78,7 +76,7 @@ impl<A: Cells> Replica<A> {
         ensures of_schema { IfOk result (λ cells. All (λ c. IsCellOf self.now.schema (owned_cell c))
             cells.items) }
     {
-        // The proof needs what the replica keeps to, which `schema` ensures.
+        // The proof needs the replica's invariant, which `schema` ensures.
         let _schema = self.schema();
         let mut cells = Vec::new(alloc);
         let mut walk = CellWalk::new(alloc, self);

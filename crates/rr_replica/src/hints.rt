@@ -5,20 +5,20 @@ use rr_key::SeriesKey;
 use std::alloc::{AllocError, Global};
 use std::hash::{FoldHasher, Hasher};
 
-/// How many buckets of the table may have the index of a key.
+/// How many buckets of the table may hold the index of a key.
 const MAX_PROBES: usize = 8;
 
-/// How many buckets the table has at first, a power of two, as their number always is.
+/// How many buckets the table has at first: a power of two, as at all times.
 const FIRST_BUCKETS: usize = 16;
 
-/// What stands in a bucket that has no index.
+/// What a bucket without an index holds.
 const EMPTY: u32 = u32::MAX;
 
-/// A table of the indices of keys, each near the bucket that the hash of its key says.
+/// A table of the indices of keys, each near the bucket given by the hash of its key.
 ///
-/// It may lack keys, and an index in it may be of another key: whoever asks compares the keys, and
-/// looks elsewhere for those that aren't found. So keys that are chosen for their hashes only
-/// become slower to find, and none is ever mistaken for another.
+/// It may lack keys, and an index in it may be of another key: keys are compared, and those not
+/// found are looked up elsewhere. So keys chosen for their hashes are only slower to find, and none
+/// is ever mistaken for another.
 #[derive(Drop)]
 pub(crate) struct Hints {
     alloc: Global,
@@ -34,8 +34,8 @@ impl Hints {
         }
     }
 
-    /// The index of a key among keys, if the table has it. The cost is one pass over the key, and
-    /// the comparison of at most eight keys with it.
+    /// The index of a key among `keys`, if the table has it. The cost is one pass over the key, and
+    /// comparing at most eight keys with it.
     pub(crate) fn find(&self, keys: &[SeriesKey], key: &SeriesKey) -> Option<usize>
         ensures { IfSome result (λ i. slice_get keys.now i ≡ Some key.now) }
     {
@@ -49,7 +49,7 @@ impl Hints {
         None
     }
 
-    /// Adds the last of the keys. Without memory for more buckets some keys stay without one.
+    /// Adds the last of the keys. Without memory for more buckets, some keys stay without one.
     pub(crate) fn add(&mut self, keys: &[SeriesKey]) {
         if self.buckets.len() / 2 < keys.len() && self.grow(keys).is_ok() {
             return;
@@ -59,7 +59,7 @@ impl Hints {
         }
     }
 
-    /// Makes twice as many buckets, for all of the keys.
+    /// Doubles the number of buckets, for all of the keys.
     fn grow(&mut self, keys: &[SeriesKey]) -> Result<(), AllocError> {
         let count = self.buckets.len().saturating_mul(2).max(FIRST_BUCKETS);
         self.buckets = vec![in self.alloc; EMPTY; count]?;
@@ -69,7 +69,7 @@ impl Hints {
         Ok(())
     }
 
-    /// Writes the index of a key into the first of its buckets that is empty, if there is one.
+    /// Writes the index of a key into its first empty bucket, if there is one.
     fn insert(&mut self, key: &SeriesKey, index: usize) {
         let Ok(index) = u32::try_from(index) else {
             return;
@@ -84,7 +84,7 @@ impl Hints {
         }
     }
 
-    /// The index in a bucket, if it has one.
+    /// What a bucket has, an index or `EMPTY`; none if there are no buckets.
     fn index_at(&self, bucket: usize) -> Option<usize> {
         match self.buckets.get(self.wrapped(bucket)) {
             Some(index) => Some(*index as usize),
@@ -92,7 +92,7 @@ impl Hints {
         }
     }
 
-    /// A bucket of the table, after the last of which the first comes again.
+    /// A bucket of the table, wrapping around after the last.
     fn wrapped(&self, bucket: usize) -> usize {
         bucket & self.buckets.len().wrapping_sub(1)
     }

@@ -13,7 +13,7 @@ use rr_key::SeriesKey;
 
 impl<A: Cells> Replica<A> {
     /// Whether a sample of a key at a time, in nanoseconds since the Unix epoch, would be kept: in
-    /// some archive its slot is not past the horizon. One that is put where this is false leaves no
+    /// some archive its slot is not past the horizon. A sample put when this is false leaves no
     /// trace but its number. The cost is that of [`Replica::archive`] for each archive.
     pub fn keeps(&self, key: &SeriesKey, time: i64) -> bool
         ensures { result ≡ keeps self.now.schema self.now.cells key.now time }
@@ -22,8 +22,8 @@ impl<A: Cells> Replica<A> {
     }
 
     /// Whether a sample would be kept, as [`Replica::keeps`] says. If the hint is right, a
-    /// comparison of two keys takes the place of each look-up; no archive is looked at after one
-    /// that keeps it.
+    /// comparison of two keys replaces each lookup; no archive is looked at after one that keeps
+    /// it.
     pub fn keeps_near(&self, hint: Hint, key: &SeriesKey, time: i64) -> bool
         ensures { result ≡ keeps self.now.schema self.now.cells key.now time }
     {

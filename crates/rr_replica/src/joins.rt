@@ -1,4 +1,4 @@
-//! Cells from elsewhere, joined into the archives of their keys.
+//! Joining cells from elsewhere into the archives of their keys.
 ghost use Rattle.std.specs.Prelude.{◌≡◌, ◌≤◌, true, Some, slice_get};
 ghost use Rattle.rr_text.specs.declared.limits.TheConstants.{MAX_NUMBER};
 ghost use Rattle.rr_cells.specs.Cells.{IsTrimmed};

@@ -12,12 +12,12 @@ use rr_key::SeriesKey;
 use std::alloc::{AllocError, Global};
 
 impl<A: Cells> Replica<A> {
-    /// The first cell of a key behind this one, or the first of all.
+    /// The first cell of a key after this one, or the first of all.
     fn first_behind(&self, after: Option<&SeriesKey>) -> Option<CellRef<'_>>
         ensures { option_map seen_cell result
             ≡ first_behind (lent_key after.entry) (entries self.now.cells) }
     {
-        // The proof needs what the replica keeps to, which `schema` ensures.
+        // The proof needs the replica's invariant, which `schema` ensures.
         let _schema = self.schema();
         match after {
             Some(key) => self.next_cell(key, u8::MAX, i64::MAX, self.origin()),
@@ -25,9 +25,9 @@ impl<A: Cells> Replica<A> {
         }
     }
 
-    /// As many keys as `count` that have a cell, in order, from the first one behind a key on, or
-    /// from the first of all; fewer where there are fewer. A series of whose samples no archive
-    /// keeps one has no cell. The cost is that of [`Replica::next_cell`] for each of them.
+    /// The next `count` keys that have a cell, in order, from the first one after a key on, or from
+    /// the first of all; fewer if there are fewer. A series with no sample kept by any archive has
+    /// no cell. The cost is that of [`Replica::next_cell`] for each of them.
     pub fn keys_after(
         &self,
         alloc: Global,

@@ -1,4 +1,4 @@
-//! The laws of replicas, with no work to do: each function has an empty body.
+//! The laws of replicas: functions with empty bodies, whose contracts state them.
 ghost use Rattle.rr_replica.specs.KeysLaw.{ListedAreTheFirst};
 ghost use Rattle.rr_replica.specs.Writing.{WritingGoesOn};
 
@@ -8,14 +8,13 @@ pub use rr_cells::laws::cells::{
     live_cells_are_few, puts_go_by_archives, whole_cells_make_their_cells,
 };
 
-/// To put some fields of a point, and then the rest of them where memory ran out, is to put them
-/// all.
+/// Putting some fields of a point, and then the rest if memory ran out, is putting them all.
 pub fn writing_goes_on()
     ensures { WritingGoesOn }
 {}
 
-/// The keys that `keys_after` lists are distinct and ascend. They are those that have a cell, from
-/// behind the key on, and one of these is missing only where as many as are wanted are before it.
+/// The keys that `keys_after` lists are distinct and ascend. They are those after the key that have
+/// a cell, and one of these is missing only if as many as are wanted come before it.
 pub fn listed_keys_are_the_first()
     ensures { ListedAreTheFirst }
 {}

@@ -1,14 +1,14 @@
 //! A replica: all series of one host, as one map of cells.
 //!
 //! A [`Replica`] has a schema and an origin, and for each key an archive for each of the schema's.
-//! It is seen as one finite map from the names of cells to contributions, as `rr_cells` has it,
-//! whatever the archives are made of. A sample that is put gets the replica's next number, and in
-//! each archive it is added to the cell that its time falls in. Of a [`Cell`] from elsewhere and
-//! what stands at its name the greater is kept, and the next number moves past a cell of the
+//! Contracts see it as one finite map from the names of cells to contributions, as `rr_cells` has
+//! it, whatever the archives are made of. A sample that is put gets the replica's next number, and
+//! in each archive it is added to the cell that its time falls in. The greater of a [`Cell`] from
+//! elsewhere and what is at its name is kept, and the next number moves past a cell of the
 //! replica's own origin. Cells are listed in the order of their names, from an offset on or after a
-//! name; a [`CellWalk`] is for those who read many of them, one after the other.
+//! name; a [`CellWalk`] is for reading many of them, one after the other.
 //!
-//! Either of the two steps is an [`Op`] too, as a value. Room for it is made before it is applied,
+//! Each of these two steps is also a value, an [`Op`]. Room for it is made before it is applied,
 //! which then can't fail (`specs/ReplicaWithRoom.antt`).
 #![tactic(auto)]
 

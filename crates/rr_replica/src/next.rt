@@ -36,7 +36,7 @@ pub(crate) struct KeyArchive<'a, A: Drop> {
     pub(crate) archive: &'a A,
 }
 
-/// The first cell of a key's archives from the one with a number on.
+/// The first cell of a key's archives from number `first` on.
 fn first_from<'a, A: Cells>(key: &'a SeriesKey, archives: &[A], first: usize) -> Option<CellRef<'a>>
     requires { length archives.now ≤ MAX_ARCHIVES }
     ensures { option_map seen_cell result
@@ -74,8 +74,8 @@ fn next_in<'a, A: Cells>(
     }
 }
 
-/// The archive of a key with a number, if it has one: found by the hash of the key. The cell that
-/// is next there is the next one of all.
+/// The archive of a key by number, if it has one, found by the hash of the key. The cell that is
+/// next there is the next one of all.
 pub(crate) fn key_archive<'a, A: Cells>(
     series: &'a SeriesMap<A>,
     key: &SeriesKey,
@@ -111,7 +111,7 @@ fn next_in_own<'a, A: Cells>(series: &'a SeriesMap<A>, name: &NameRef<'_>) -> Op
 }
 
 /// The first cell after a name among those of all series. No series before the name's key is walked
-/// over, and the tree of the keys is only asked where the name's archive has no further cell.
+/// over, and the tree of the keys is searched only if the name's archive has no further cell.
 pub(crate) fn next_cell<'a, A: Cells>(
     series: &'a SeriesMap<A>,
     name: &NameRef<'_>,

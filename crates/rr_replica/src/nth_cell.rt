@@ -17,8 +17,7 @@ use rr_cells::CellRef;
 use rr_key::SeriesKey;
 use rr_text::limits::MAX_ARCHIVES;
 
-/// How many cells archives hold, added to others; the greatest value of the type, where it can't
-/// hold that many.
+/// How many cells archives hold, added to `others`. It saturates.
 pub(crate) fn count_in<A: Cells>(archives: &[A], others: usize) -> usize
     ensures { result ≡ at_most_usize (others + count_of (map A.cells archives.now)) }
 {
@@ -43,7 +42,7 @@ pub(crate) fn named(key: &SeriesKey, archive: u8, cell: (i64, Entry)) -> CellRef
     }
 }
 
-/// The cell of an archive with a number. An archive that holds fewer is passed over by its count.
+/// The cell of an archive with this number. An archive that holds fewer is skipped by its count.
 fn nth_of<A: Cells>(archive: &A, number: usize) -> Option<(i64, Entry)>
     ensures { result ≡ option_map cell_of (slice_get (fin.entries (A.cells archive.now)) number) }
 {
@@ -53,8 +52,8 @@ fn nth_of<A: Cells>(archive: &A, number: usize) -> Option<(i64, Entry)>
     archive.cell_at(number)
 }
 
-/// The cell with a number among those of a key's archives, or else what is left of the number after
-/// them.
+/// The cell with this number among those of a key's archives, or else what is left of the number
+/// after them.
 pub(crate) fn nth_in<'a, A: Cells>(
     key: &'a SeriesKey,
     archives: &[A],
@@ -87,7 +86,7 @@ pub(crate) fn count_cells<A: Cells>(series: &SeriesMap<A>) -> usize
     count
 }
 
-/// The cell with a number among those of all series.
+/// The cell with this number among those of all series.
 pub(crate) fn nth_cell<A: Cells>(series: &SeriesMap<A>, number: usize) -> Option<CellRef<'_>>
     requires { AllByRecursion (λ e. length e.1.items ≤ MAX_ARCHIVES)
         (entries_of series.now) }

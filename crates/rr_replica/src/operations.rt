@@ -1,4 +1,4 @@
-//! Operations, applied to a replica.
+//! Applying operations to a replica.
 ghost use Rattle.std.specs.Prelude.{◌≡◌, fold, IsTrue};
 ghost use Rattle.rr_replica.specs.Archives.{IsOpOf};
 ghost use Rattle.rr_cells.specs.Operations.{accepts, step};
@@ -32,8 +32,8 @@ impl<A: Cells> Replica<A> {
         ensures accepted { result ≡ accepts (replica_state self.now) (Put sample.now) }
         ensures op { IsTrue result → IsOpOf self.now.schema (Put sample.now) }
     {
-        // The proof needs what the replica keeps to, which `schema` ensures, and that the time is
-        // one of 64 bits.
+        // The proof needs the replica's invariant, which `schema` ensures, and that the time is one
+        // of 64 bits.
         let _schema = self.schema();
         let _time = sample.time;
         sample.origin == self.origin()
@@ -42,8 +42,8 @@ impl<A: Cells> Replica<A> {
     }
 
     /// Puts a sample of the replica's own origin as [`Replica::apply`] takes the operation that
-    /// puts it, where its series is told by a number: they are counted from 0 in the order in which
-    /// their keys came. No key is looked for. Where there is no such series nothing changes.
+    /// puts it, but with its series named by number: series are counted from 0 in the order in
+    /// which their keys came. No key is looked up. If there is no such series, nothing changes.
     pub fn apply_put_numbered(
         &mut self,
         series: usize,
@@ -57,7 +57,7 @@ impl<A: Cells> Replica<A> {
             (puts_at self.old.keys self.old.origin series number time value))
             self.old self.new result }
     {
-        // The proof needs what the replica keeps to, which `schema` ensures.
+        // The proof needs the replica's invariant, which `schema` ensures.
         let _schema = self.schema();
         if number < self.next_number() || number > MAX_NUMBER {
             return Ok(());
@@ -75,12 +75,12 @@ impl<A: Cells> Replica<A> {
     }
 
     /// Takes an operation whole: a sample is put under its number, and the next one comes after it;
-    /// a cell is joined as [`Replica::join_cell`] does. The answer is whether it is taken.
+    /// a cell is joined as [`Replica::join_cell`] does. Returns whether it is taken.
     ///
-    /// It isn't, and nothing changes, where a sample is of another origin, or its number is below
-    /// the next one or above 2^40, or where a cell is none of the schema's or not valid. After an
-    /// error nothing has changed; after [`Replica::ready`] of the same operation there is none. The
-    /// cost is that of [`Replica::put`] or [`Replica::join_cell`].
+    /// It isn't, and nothing changes, if a sample is of another origin, or its number is below the
+    /// next one or above 2^40, or if a cell is not of the schema or not valid. After an error
+    /// nothing has changed; after [`Replica::ready`] of the same operation there is none. The cost
+    /// is that of [`Replica::put`] or [`Replica::join_cell`].
     pub fn apply(&mut self, op: &Op) -> Result<bool, AllocError>
         ensures { Takes op.now self.old self.new result }
     {
@@ -107,7 +107,7 @@ impl<A: Cells> Replica<A> {
         Ok(true)
     }
 
-    /// Takes an operation whose series is told by a number, as [`Replica::apply`] takes one that it
+    /// Takes an operation whose series is named by number, as [`Replica::apply`] takes one that it
     /// takes.
     #[inline(always)]
     pub fn apply_numbered(&mut self, series: usize, op: &Op) -> Result<(), AllocError>

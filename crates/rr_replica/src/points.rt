@@ -17,9 +17,9 @@ use rr_point::{Field, Point};
 use std::alloc::{AllocError, Global};
 use std::mem::replace;
 
-/// Whoever takes samples, each under the next number of an origin.
+/// Takes samples, each under the next number of an origin.
 ///
-/// It is seen as a state, by the replica that this stands for, and by what a put makes of it.
+/// Contracts see it as a state, by the replica that this stands for, and by what a put makes of it.
 pub trait Sink {
     ghost State: { Type 0 };
 
@@ -29,13 +29,13 @@ pub trait Sink {
 
     ghost with_put: { State → List ℕ → ℤ → ℤ → State };
 
-    /// Whether fewer numbers are left than these.
+    /// Whether fewer than `count` numbers are left.
     fn lacks_numbers(&self, count: usize) -> bool
         ensures { result ≡ lacks_numbers (replica (state self.now)) count };
 
-    /// Puts a sample of a key under the next number, which is the answer. The time is in
-    /// nanoseconds since the Unix epoch. Refused as `NumbersSpent` where the next number is past
-    /// 2^40. After a refusal nothing has changed.
+    /// Puts a sample of a key under the next number, and returns that. The time is in nanoseconds
+    /// since the Unix epoch. Refused as `NumbersSpent` if the next number is past 2^40. After a
+    /// refusal nothing has changed.
     fn put(&mut self, key: &SeriesKey, time: i64, value: i64) -> Result<u64, PutFault>
         ensures { PutsNext (replica (state self.old)).next (state self.old)
             (with_put (state self.old) key.now time value) (state self.new) result };
@@ -64,14 +64,14 @@ impl<A: Cells> Sink for Replica<A> {
 impl<A: Cells> Replica<A> {
     ghost use Rattle.rr_cells.specs.ReplicaState.{with_put};
 
-    /// Puts a sample of each field of a point, in the line's order, under as many numbers, and
-    /// answers how many. A point without a time takes `now`. Times are in nanoseconds since the
-    /// Unix epoch, the lead too.
+    /// Puts a sample of each field of a point, in the line's order, each under the next number, and
+    /// returns how many. A point without a time takes `now`. Times are in nanoseconds since the
+    /// Unix epoch, the lead in nanoseconds.
     ///
-    /// Refused as `AheadOfClock` where the point's own time is greater than `now + lead`, and as
-    /// `NumbersSpent` where fewer numbers are left than the point has fields; nothing has then
-    /// changed. Where memory runs out, `Memory` says how many fields, from the first on, were put.
-    /// The cost is that of making the keys and of the puts.
+    /// Refused as `AheadOfClock` if the point's own time is greater than `now + lead`, and as
+    /// `NumbersSpent` if fewer numbers are left than the point has fields; nothing has then
+    /// changed. If memory runs out, `Memory` says how many fields, from the first on, were put. The
+    /// cost is that of making the keys and of the puts.
     pub fn write(
         &mut self,
         point: &Point<'_>,
@@ -90,9 +90,9 @@ impl<A: Cells> Replica<A> {
     }
 }
 
-/// Puts a sample of each field of a point, with the answers, refusals and cost of
-/// [`Replica::write`]. Keys are written over `text`, whose memory is used again; what is left in it
-/// has no meaning.
+/// Puts a sample of each field of a point, with the results, refusals and cost of
+/// [`Replica::write`]. Keys are written over `text`, whose memory is reused; what is left in it has
+/// no meaning.
 pub fn write_point<S: Sink>(
     sink: &mut S,
     text: &mut Vec<u8>,

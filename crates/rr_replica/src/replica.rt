@@ -33,8 +33,8 @@ use std::marker::Model;
 /// All series of one host, seen as one map of cells: what each origin contributes to each slot of
 /// each archive of each key.
 ///
-/// It writes samples under its origin, each with the next number. Its cells are live and valid at
-/// all times, and their number is bounded by the keys, rows and origins, whatever was written.
+/// It writes samples under its origin, each with the next number. Its cells are always live and
+/// valid, and their number is bounded by the keys, rows and origins, whatever was written.
 #[derive(Drop)]
 pub struct Replica<A: Cells> {
     pub(crate) alloc: Global,
@@ -42,7 +42,7 @@ pub struct Replica<A: Cells> {
     origin: Origin,
     next: u64,
     pub(crate) series: SeriesMap<A>,
-    /// Where key texts of points are written, one over the other.
+    /// Where key texts of points are written, each over the last.
     pub(crate) text: Vec<u8>,
 }
 
@@ -63,7 +63,7 @@ impl<A: Cells> Model for Replica<A> {
 }
 
 impl<A: Cells> Replica<A> {
-    /// A replica that holds no cell, and whose first sample has number 1.
+    /// A replica without cells, whose first sample gets number 1.
     pub fn new(alloc: Global, schema: &Schema, origin: Origin) -> Result<Replica<A>, AllocError>
         ensures { IfOk result (λ r.
             replica_state r ≡ record {
@@ -87,7 +87,7 @@ impl<A: Cells> Replica<A> {
     }
 
     /// A replica that holds the same, under the same origin and next number; the keys' texts are
-    /// shared. The cost is linear in the cells, and in the series times their logarithm.
+    /// shared. The cost is linear in the cells, and n log n in the number of series.
     pub fn copy(&self, alloc: Global) -> Result<Replica<A>, AllocError>
         ensures state { IfOk result (λ r. replica_state r ≡ replica_state self.now) }
         ensures keys { IfOk result (λ r. r.keys ≡ self.now.keys) }
@@ -102,9 +102,8 @@ impl<A: Cells> Replica<A> {
         })
     }
 
-    /// The schema of all series. A caller learns here too what a replica keeps to: its cells are
-    /// live and are cells of this schema, and those of its own origin are of numbers before the
-    /// next.
+    /// The schema of all series. Its contract also states the replica's invariant: its cells are
+    /// live and are cells of this schema, and those of its own origin have numbers before the next.
     pub fn schema(&self) -> &Schema
         ensures value { result.now ≡ self.now.schema }
         ensures holds { IsReplicaState (replica_state self.now) }
@@ -126,17 +125,17 @@ impl<A: Cells> Replica<A> {
         self.next
     }
 
-    /// Puts a sample of a key under the next number, which is the answer. The time is in
-    /// nanoseconds since the Unix epoch.
+    /// Puts a sample of a key under the next number, and returns that. The time is in nanoseconds
+    /// since the Unix epoch.
     ///
-    /// In each archive where its slot is past the horizon the sample leaves no trace; it has its
-    /// number all the same. Refused as `NumbersSpent` where the next number is past 2^40. After a
+    /// In each archive where its slot is past the horizon, the sample leaves no trace; it has its
+    /// number all the same. Refused as `NumbersSpent` if the next number is past 2^40. After a
     /// refusal, `Memory` included, nothing has changed: before a cell changes, room is made in all
     /// archives but the first, which is then written first.
     ///
-    /// The cost is one look-up of the key and, in each archive, one of the slot, a second to make
-    /// room first in each but the first archive, one more where a row is new, and the entries of a
-    /// row, however many series there are.
+    /// The cost is one lookup of the key and, in each archive, one of the slot, a second to make
+    /// room first in all but the first archive, one more if a row is new, and the entries of a row,
+    /// however many series there are.
     pub fn put(&mut self, key: &SeriesKey, time: i64, value: i64) -> Result<u64, PutFault>
         ensures { PutsNext self.old.next (replica_state self.old)
             (with_put (replica_state self.old) key.now time value) (replica_state self.new) result }
@@ -155,7 +154,7 @@ impl<A: Cells> Replica<A> {
         Ok(number)
     }
 
-    /// Puts a sample of a key under its own number, after which the next one comes.
+    /// Puts a sample of a key under its own number, and moves the next number past it.
     pub(crate) fn put_unkeyed(
         &mut self,
         key: &SeriesKey,
@@ -174,8 +173,8 @@ impl<A: Cells> Replica<A> {
         Ok(())
     }
 
-    /// Puts a sample of the series with a number under its own number, after which the next one
-    /// comes.
+    /// Puts a sample of the series with this number under its own number, and moves the next number
+    /// past it.
     #[inline(always)]
     pub(crate) fn put_unkeyed_at(
         &mut self,
@@ -197,10 +196,10 @@ impl<A: Cells> Replica<A> {
     }
 
     /// Makes room for an operation, so that the next [`Replica::apply`] of it can't fail. It
-    /// changes no cell. For an operation that isn't taken no room is needed, and none is made.
+    /// changes no cell. An operation that isn't taken needs no room, and none is made.
     ///
-    /// The archives of a key that has none are added for it, without a cell. The cost is one
-    /// look-up of the key and one of the slot in each archive, or in the cell's.
+    /// The archives of a key that has none are added for it, without a cell. The cost is one lookup
+    /// of the key and one of the slot in each archive, or in the cell's.
     pub fn ready(&mut self, op: &Op) -> Result<(), AllocError>
         ensures { MakesReady op.now self.old self.new result }
     {
@@ -211,9 +210,9 @@ impl<A: Cells> Replica<A> {
         Ok(())
     }
 
-    /// Makes room as [`Replica::ready`] does for an operation that the replica takes, and answers
-    /// the number of its series: they are counted from 0 in the order in which their keys came. If
-    /// the hint is right, a comparison of two keys takes the place of the look-up.
+    /// Makes room as [`Replica::ready`] does for an operation that the replica takes, and returns
+    /// the number of its series: series are counted from 0 in the order in which their keys came.
+    /// If the hint is right, a comparison of two keys replaces the lookup.
     #[inline(always)]
     pub fn ready_series(&mut self, hint: Hint, op: &Op) -> Result<usize, AllocError>
         requires { accepts (replica_state self.old) op.now ≡ true }
@@ -221,12 +220,12 @@ impl<A: Cells> Replica<A> {
         ensures key { IfOk result (λ i. slice_get self.new.keys i ≡ Some (op_key op.now)) }
         ensures keys_grow { IsPrefix self.old.keys self.new.keys }
     {
-        // The proof needs what the replica keeps to, which `accepts` ensures.
+        // The proof needs the replica's invariant, which `accepts` ensures.
         let _accepted = self.accepts(op);
         make_room_in(&mut self.series, self.alloc, &self.schema, hint, op)
     }
 
-    /// Adds a key without a cell, unless the replica has it. The cost is one look-up of the key.
+    /// Adds a key without a cell, unless the replica has it. The cost is one lookup of the key.
     pub fn add_key(&mut self, key: &SeriesKey) -> Result<(), AllocError>
         ensures unchanged { replica_state self.new ≡ replica_state self.old }
         ensures added { OnOk result (self.new.keys ≡ with_key self.old.keys key.now) }
@@ -236,9 +235,9 @@ impl<A: Cells> Replica<A> {
         Ok(())
     }
 
-    /// The number of the series of a key: they are counted from 0 in the order in which their keys
-    /// came. A key that the replica lacks is added without a cell. The cost is one look-up of the
-    /// key.
+    /// The number of the series of a key: series are counted from 0 in the order in which their
+    /// keys came. A key that the replica lacks is added without a cell. The cost is one lookup of
+    /// the key.
     pub fn series_of(&mut self, key: &SeriesKey) -> Result<usize, AllocError>
         ensures unchanged { replica_state self.new ≡ replica_state self.old }
         ensures number { IfOk result (λ i. slice_get self.new.keys i ≡ Some key.now) }
@@ -248,7 +247,7 @@ impl<A: Cells> Replica<A> {
         add_key_in(&mut self.series, self.alloc, &self.schema, key)
     }
 
-    /// Whether the replica has a key, with or without a cell. The cost is one look-up of the key.
+    /// Whether the replica has a key, with or without a cell. The cost is one lookup of the key.
     pub fn knows(&self, key: &SeriesKey) -> bool
         ensures { result ≡ knows self.now.keys key.now }
     {
@@ -262,7 +261,7 @@ impl<A: Cells> Replica<A> {
         self.series.keys.len()
     }
 
-    /// The key of the series with a number. None before it is the same.
+    /// The key of the series with this number. None before it is the same.
     pub fn key_numbered(&self, series: usize) -> &SeriesKey
         requires { series < length self.now.keys }
         ensures key { slice_get self.now.keys series ≡ Some result.now }
@@ -271,10 +270,10 @@ impl<A: Cells> Replica<A> {
         &self.series.keys[series]
     }
 
-    /// The key, and where its series is. Of a series that is known the key shares its text with
-    /// this one, so no memory is taken and a further look-up has the text at hand.
+    /// The key, and where its series is. The key of a known series shares its text with the one
+    /// held here, so no memory is taken.
     ///
-    /// The cost is one look-up of the key; if the hint is right, a comparison of two keys.
+    /// The cost is one lookup of the key; if the hint is right, a comparison of two keys.
     pub fn known_key_near(
         &self,
         hint: Hint,
@@ -291,8 +290,8 @@ impl<A: Cells> Replica<A> {
         self.series.keys.get(hint.index)
     }
 
-    /// The archive of a key with a number, from 0. There is none where the key is unknown, nor past
-    /// the schema's last archive; then no cell is there. The cost is one look-up of the key.
+    /// The archive of a key by number, from 0. There is none if the key is unknown, nor past the
+    /// schema's last archive; then no cell is there. The cost is one lookup of the key.
     pub fn archive(&self, key: &SeriesKey, i: u8) -> Option<&A>
         ensures { MatchOption result (archive_cells self.now.cells key.now i ≡ fin.empty)
             (λ archive. A.cells archive.now ≡ archive_cells self.now.cells key.now i) }
@@ -300,8 +299,7 @@ impl<A: Cells> Replica<A> {
         self.archive_near(Hint::none(), key, i)
     }
 
-    /// The archive of a key with a number, as [`Replica::archive`] gives it. The hint is tried
-    /// first.
+    /// The archive of a key by number, as [`Replica::archive`] gives it. The hint is tried first.
     pub(crate) fn archive_near(&self, hint: Hint, key: &SeriesKey, i: u8) -> Option<&A>
         ensures { MatchOption result (archive_cells self.now.cells key.now i ≡ fin.empty)
             (λ archive. A.cells archive.now ≡ archive_cells self.now.cells key.now i) }
@@ -315,7 +313,7 @@ impl<A: Cells> Replica<A> {
 
 impl<A: Archive> Replica<A> {
     /// The entries of a slot of an archive of a key, ascending by origin. There are none past the
-    /// schema's last archive. The cost is one look-up of the key and one of the slot.
+    /// schema's last archive. The cost is one lookup of the key and one of the slot.
     pub fn row(&self, key: &SeriesKey, archive: u8, slot: i64) -> &[Entry]
         ensures { result.now ≡ row_at self.now.cells key.now archive slot }
     {
@@ -333,19 +331,19 @@ impl<A: Cells> Replica<A> {
     ghost use Rattle.rr_cells.specs.Joining.{with_cell, with_cells};
     ghost use Rattle.rr_replica.specs.Joining.{IsAfterJoined, IsJoinedWith};
 
-    /// Whether fewer numbers are left than these.
+    /// Whether fewer than `count` numbers are left.
     pub fn lacks_numbers(&self, count: usize) -> bool
         ensures { result ≡ lacks_numbers (replica_state self.now) count }
     {
         MAX_NUMBER + 1 - self.next < count as u64
     }
 
-    /// Joins a cell from elsewhere, which is valid under the schema: of it and what stands at its
-    /// name the greater stays, and then only the live cells. A cell of the replica's own origin,
-    /// whose version is the next number or past it, moves the next number past it.
+    /// Joins a cell from elsewhere, which is valid under the schema: the greater of it and what is
+    /// at its name is kept, and then only the live cells. A cell of the replica's own origin whose
+    /// version is the next number or past it moves the next number past it.
     ///
-    /// A cell that is past the horizon itself leaves no trace among the cells. After an error
-    /// nothing has changed. The cost is one look-up of the key and, in the cell's archive, one of
+    /// A cell that is itself past the horizon leaves no trace among the cells. After an error
+    /// nothing has changed. The cost is one lookup of the key and, in the cell's archive, one of
     /// the slot, the entries of a row, and the rows that go.
     pub fn join_cell(&mut self, cell: &Cell) -> Result<(), AllocError>
         requires { IsCellOf self.old.schema (owned_cell cell.now) }
@@ -359,8 +357,8 @@ impl<A: Cells> Replica<A> {
         Ok(())
     }
 
-    /// Joins a cell as [`Replica::join_cell`] does, where its series is told by its number, as
-    /// [`Replica::series_of`] gives it. No key is looked for.
+    /// Joins a cell as [`Replica::join_cell`] does, but with its series named by number, as
+    /// [`Replica::series_of`] gives it. No key is looked up.
     pub fn join_cell_numbered(&mut self, series: usize, cell: &Cell) -> Result<(), AllocError>
         requires cell { IsCellOf self.old.schema (owned_cell cell.now) }
         requires key { slice_get self.old.keys series ≡ Some cell.now.key }
@@ -372,8 +370,8 @@ impl<A: Cells> Replica<A> {
         Ok(())
     }
 
-    /// Joins cells from elsewhere, in order, each as `join_cell` does. All cells of a map, joined
-    /// so, are the join with that map. Where memory runs out, `Memory` says how many cells, from
+    /// Joins cells from elsewhere, in order, each as `join_cell` does. Joining all cells of a map
+    /// this way is the join with that map. If memory runs out, `Memory` says how many cells, from
     /// the first on, were joined.
     pub fn join_cells(&mut self, cells: &[Cell]) -> Result<(), JoinFault>
         requires { All (λ c. IsCellOf self.old.schema (owned_cell c)) cells.now }
@@ -386,7 +384,7 @@ impl<A: Cells> Replica<A> {
         ensures cells_left { (joined : ℕ) → result ≡ Err (JoinFault.Memory joined)
             → joined < length cells.now }
     {
-        // The proof needs what the replica keeps to, which `schema` ensures.
+        // The proof needs the replica's invariant, which `schema` ensures.
         let _schema = self.schema();
         let mut joined = 0;
         for cell in cells {

@@ -16,8 +16,8 @@ use rr_key::SeriesKey;
 use rr_schema::Schema;
 use std::alloc::{AllocError, Global};
 
-/// Makes room for an operation in the archives of its key, which are added where there are none,
-/// and says which series it is. No cell changes.
+/// Makes room for an operation in the archives of its key, which are added if there are none, and
+/// returns which series it is. No cell changes.
 #[inline(always)]
 pub(crate) fn make_room_in<A: Cells>(
     series: &mut SeriesMap<A>,
@@ -48,7 +48,7 @@ pub(crate) fn make_room_in<A: Cells>(
     }
 }
 
-/// Adds a key with archives that hold no cell, unless it is known, and says which series it is.
+/// Adds a key with archives that hold no cell, unless it is known, and returns which series it is.
 pub(crate) fn add_key_in<A: Cells>(
     series: &mut SeriesMap<A>,
     alloc: Global,

@@ -1,4 +1,4 @@
-//! Samples, stored in the archives of their keys.
+//! Storing samples in the archives of their keys.
 ghost use Rattle.std.specs.Prelude.{◌≡◌, ◌<◌, [], length, get_or};
 ghost use Rattle.rr_replica.specs.SeriesMap.{entries_of};
 ghost use Rattle.rr_replica.specs.InMemory.{IsReplicaInMemory, PutsUnkeyed};
@@ -11,7 +11,7 @@ use rr_key::SeriesKey;
 use rr_schema::Schema;
 use std::alloc::{AllocError, Global};
 
-/// Stores a sample of the series with a number in each of its archives, or in none.
+/// Stores a sample of the series at an index in each of its archives, or in none.
 #[inline(always)]
 pub(crate) fn store_at<A: Cells>(
     series: &mut SeriesMap<A>,

@@ -1,4 +1,4 @@
-//! The archives of all keys, found by a key.
+//! The archives of all keys, found by key.
 ghost use Rattle.std.specs.Prelude.{◌≡◌, ◌∷◌, ◌++◌, ℕ, List, [], None, Some, Option, cond, IfOk, IfSome, OnOk, OnErr, slice_get};
 ghost use Rattle.std.specs.Option.{option_map};
 ghost use Rattle.std.specs.BTreeMap.{is_at};
@@ -16,7 +16,7 @@ use std::collections::BTreeMap;
 /// The archives of all keys. Each key has an index, by which its archives are found once it is
 /// known.
 ///
-/// A tree has the indices in order of the keys, and hints are tried before it: a key is mostly
+/// A tree has the indices in order of the keys, and hints are tried before it: a key is usually
 /// found by its hash, and at worst at the cost of the tree.
 #[derive(Drop)]
 pub(crate) struct SeriesMap<A> {
@@ -54,7 +54,7 @@ impl<A: Drop> SeriesMap<A> {
         }
     }
 
-    /// The index of a hint, if the key is there.
+    /// The index of a hint, if the key is the one there.
     fn index_near(&self, hint: Hint, key: &SeriesKey) -> Option<usize>
         ensures { IfSome result (λ i. slice_get self.now.keys.items i ≡ Some key.now) }
     {
@@ -76,8 +76,8 @@ impl<A: Drop> SeriesMap<A> {
         }
     }
 
-    /// The key as it is known, with its index; one that isn't known as it is, with the index that
-    /// it gets when it is added next. The hint is tried first.
+    /// The key as it is known, with its index; one that isn't known is given as it is, with the
+    /// index it gets if added next. The hint is tried first.
     pub(crate) fn known_key<'a>(&'a self, hint: Hint, key: &'a SeriesKey) -> (&'a SeriesKey, usize)
         ensures { result.0.now ≡ key.now }
     {

@@ -10,8 +10,8 @@ use crate::series::SeriesMap;
 use rr_archive::Cells;
 use rr_key::SeriesKey;
 
-/// Shares rows of archives, each with the one of the same number; where that is not there, finished
-/// rows are made ready to be shared.
+/// Shares rows of archives, each with the one of the same number; if that is missing, finished rows
+/// are made ready to be shared.
 fn share_archives<A: Cells>(archives: &mut Vec<A>, others: &[A])
     ensures { map (seen_archive A.cells A.row_limit) archives.new.items
         ≡ map (seen_archive A.cells A.row_limit) archives.old.items }
@@ -32,9 +32,9 @@ fn share_at<A: Cells>(series: &mut SeriesMap<A>, index: usize, others: &[A])
 }
 
 impl<A: Cells> Replica<A> {
-    /// Makes finished rows of the series with a number ready to be shared by other replicas. It
-    /// changes nothing that the replica holds. The cost is that of giving back the memory that they
-    /// don't need.
+    /// Makes finished rows of the series with this number ready to be shared by other replicas. It
+    /// changes nothing that the replica holds. The cost is that of [`Cells::share_rows`] for each
+    /// archive.
     pub fn finish_rows(&mut self, series: usize)
         ensures { HoldsTheSame self.old self.new }
     {
@@ -42,7 +42,7 @@ impl<A: Cells> Replica<A> {
     }
 
     /// Makes finished rows of a key ready to be shared, as [`Replica::finish_rows`] does those of a
-    /// series, if the key is known. The cost is one look-up of the key more.
+    /// series, if the key is known. The cost is one more lookup of the key.
     pub fn finish_rows_of(&mut self, key: &SeriesKey)
         ensures { HoldsTheSame self.old self.new }
     {
@@ -62,10 +62,10 @@ impl<A: Cells> Replica<A> {
         }
     }
 
-    /// Shares the finished rows of the series with a number with another replica, which has made
-    /// them ready, where both hold the same in them; if the other lacks the series, they are made
+    /// Shares the finished rows of the series with this number with another replica, which has made
+    /// them ready, if both hold the same in them; if the other lacks the series, they are made
     /// ready as by [`Replica::finish_rows`]. It changes nothing that the replica holds, whatever
-    /// the number and the other replica are. The cost is that of comparing these rows.
+    /// the number and the other replica. The cost is that of comparing these rows.
     #[inline(always)]
     pub fn share_rows(&mut self, series: usize, other: &Replica<A>)
         ensures { HoldsTheSame self.old self.new }

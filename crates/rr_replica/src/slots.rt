@@ -1,4 +1,4 @@
-//! The slots and places of times, without a division where that can be.
+//! The slots and places of times, without a division where possible.
 ghost use Rattle.std.specs.Prelude.{◌≡◌, ◌<◌, ◌+◌, ◌*◌, ◌/◌, length, pos, IfSome};
 ghost use Rattle.std.specs.Int.{int_div_euclid};
 ghost use Rattle.rr_schema.specs.Schema.{IsPlaceIn, IsSpan, slot_of};
@@ -10,7 +10,7 @@ const NANOSECONDS: u64 = 1_000_000_000;
 
 const _: () = prove!(NANOSECONDS == 1_000_000_000);
 
-/// The slot of an archive in which a time falls. Mostly it is that of the newest cell or the next
+/// The slot of an archive in which a time falls. Usually it is that of the newest cell or the next
 /// one: these are tried first, since a multiplication takes a tenth of the time of a division.
 pub(crate) fn slot_near(schema: &Schema, archive: u8, time: i64, newest: Option<i64>) -> i64
     requires { archive < length schema.now.archives }
@@ -33,8 +33,8 @@ pub(crate) fn place_in(schema: &Schema, archive: u8, time: i64) -> u32
     schema.place(archive, time)
 }
 
-/// Of the newest slot and the next one that in which a time falls, if it falls in either and
-/// neither is before the epoch.
+/// Whichever of the newest slot and the next one a time falls in, if it falls in either and neither
+/// is before the epoch.
 fn near(span: u32, time: i64, newest: Option<i64>) -> Option<i64>
     requires { IsSpan span }
     ensures { IfSome result (λ slot. int_div_euclid time (pos (span * 1_000_000_000)) ≡ slot) }
@@ -50,8 +50,8 @@ fn near(span: u32, time: i64, newest: Option<i64>) -> Option<i64>
     }
 }
 
-/// How many slots of as many nanoseconds the one of a time is after another: none or one. All are
-/// since the epoch.
+/// How many slots of `length` nanoseconds that of a time is after another: 0 or 1. All are since
+/// the epoch.
 fn slots_on(slot: u64, time: u64, length: u64) -> Option<u32>
     requires { 0 < length }
     ensures { IfSome result (λ on. time / length ≡ slot + on) }

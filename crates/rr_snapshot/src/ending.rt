@@ -11,12 +11,12 @@ use rr_io::stream::fill;
 use rr_page::fields::bytes_at;
 use std::io::Read;
 
-/// How many bytes a digest has.
+/// The size of a digest in bytes.
 const DIGEST_LEN: usize = 32;
 
 const _: () = prove!(DIGEST_LEN == 32);
 
-/// Reads a digest at the beginning of what the input has, which must be this one.
+/// Reads the digest at the start of the remaining input, which must be this one.
 pub(crate) fn digest_from<R: Read>(
     input: &mut Counted<R>,
     digest: &[u8; DIGEST_LEN],

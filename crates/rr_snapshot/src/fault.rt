@@ -173,7 +173,7 @@ impl From<PageFault> for LoadFault {
             PageFault::BadMagic => LoadFault::BadMagic,
             PageFault::BadVersion => LoadFault::BadVersion,
             PageFault::SchemaDiffers => LoadFault::SchemaDiffers,
-            // No field of a snapshot has this one.
+            // No field of a snapshot gives this one.
             PageFault::TooManyCells => LoadFault::BadContribution,
             PageFault::BadKey => LoadFault::BadKey,
             PageFault::BadArchive => LoadFault::BadArchive,

@@ -26,16 +26,16 @@ use std::io::Read;
 /// The bytes that every snapshot begins with.
 pub(crate) const MAGIC: [u8; 4] = *b"RRSN";
 
-/// How many bytes these, the version, the step and the number of archives have.
+/// How many bytes these, the version, the step and the number of archives take.
 pub(crate) const START_LEN: usize = 10;
 
-/// How many bytes an archive has.
+/// How many bytes an archive takes.
 pub(crate) const ARCHIVE_LEN: usize = 9;
 
-/// How many bytes the origin has.
+/// How many bytes the origin takes.
 pub(crate) const ORIGIN_LEN: usize = 2;
 
-/// How many bytes the number of cells has.
+/// How many bytes the number of cells takes.
 pub(crate) const COUNT_LEN: usize = 4;
 
 const _: () = prove!(START_LEN == 10);
@@ -46,7 +46,7 @@ const _: () = prove!(ORIGIN_LEN == 2);
 
 const _: () = prove!(COUNT_LEN == 4);
 
-/// Whether a schema may have had this step and so many archives before an addition.
+/// Whether a schema may have had this step and this many archives before an addition.
 fn may_have_had(schema: &Schema, step: u32, number: u8) -> bool
     ensures { result ≡ may_have_had schema.now step number }
 {
@@ -74,7 +74,7 @@ fn start_of<'a>(schema: &Schema, bytes: &'a [u8]) -> Result<(Version, u8, &'a [u
     Ok((version, number, rest))
 }
 
-/// The version and the number of archives at the beginning of what the input has.
+/// The version and the number of archives at the start of the remaining input.
 pub(crate) fn start_from<R: Read>(
     input: &mut Counted<R>,
     schema: &Schema,
@@ -126,8 +126,8 @@ fn fitting_addition(version: Version, schema: &Schema, field: &[u8]) -> Option<A
     fitting_archive(version, schema, field).map(|number: u8| Addition::Archive(number))
 }
 
-/// What was added since there were so many archives, and the origin, and what follows them. No
-/// memory is taken.
+/// What was added since there were this many archives, the origin, and what follows them. No memory
+/// is taken.
 #[tactic(auto, unfolding(crate::specs::SnapshotReading::archives_at))]
 fn archives_of<'a>(
     version: Version,
@@ -147,8 +147,8 @@ fn archives_of<'a>(
     Ok((addition, origin, rest))
 }
 
-/// What was added since there were so many archives, and the origin, at the beginning of what the
-/// input has.
+/// What was added since there were this many archives, and the origin, at the start of the
+/// remaining input.
 pub(crate) fn archives_from<R: Read>(
     input: &mut Counted<R>,
     version: Version,
@@ -173,7 +173,7 @@ pub(crate) fn archives_from<R: Read>(
     Ok((addition, origin))
 }
 
-/// The number of cells at the beginning of what the input has.
+/// The number of cells at the start of the remaining input.
 pub(crate) fn count_from<R: Read>(
     input: &mut Counted<R>,
     hasher: &mut Sha256,

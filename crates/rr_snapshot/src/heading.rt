@@ -18,13 +18,13 @@ use sha2::Sha256;
 use std::alloc::{AllocError, Global};
 use std::io::Read;
 
-/// The most cells of a snapshot.
+/// The most cells a snapshot may have.
 pub const MAX_SNAPSHOT_CELLS: u32 = 4_294_967_295;
 
 const _: () = prove!(MAX_SNAPSHOT_CELLS == 4_294_967_295);
 
-/// How many bytes there are before the cells besides the schema: the magic, the version, the origin
-/// and the number of cells.
+/// How many bytes come before the cells besides the schema: the magic, the version, the origin and
+/// the number of cells.
 const BESIDES_LEN: usize = 11;
 
 const _: () = prove!(BESIDES_LEN == 11);
@@ -37,7 +37,7 @@ pub(crate) struct Head {
     pub version: Version,
     /// What was added to the schema since.
     pub addition: Addition,
-    /// Whose replica was saved.
+    /// The origin of the replica that was saved.
     pub origin: Origin,
     /// How many cells follow.
     pub count: u32,

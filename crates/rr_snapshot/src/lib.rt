@@ -2,11 +2,11 @@
 //!
 //! A snapshot (`specs/Snapshot.antt`) has a head, the cells of a replica, strictly ascending by
 //! their names, and the SHA-256 digest of all of this. [`save`] writes it, one cell after the
-//! other, so that nothing of it but one cell is in memory. [`load`] reads it part by part up to the
-//! first fault (`specs/SnapshotReading.antt`) and joins each cell into a replica of a new origin as
-//! it comes (`specs/Loading.antt`), so that of the bytes it too holds one cell's at a time.
-//! [`laws`] says that what is read is what was written, that no snapshot begins another, and that a
-//! replica that was saved is loaded with the same cells.
+//! other, so that only one cell of it is in memory. [`load`] reads it part by part up to the first
+//! fault (`specs/SnapshotReading.antt`) and joins each cell into a replica of a new origin as it
+//! comes (`specs/Loading.antt`), so that it too holds one cell's bytes at a time. [`laws`] states
+//! that what is read is what was written, that no snapshot is a prefix of another, and that a saved
+//! replica is loaded with the same cells.
 //!
 //! ```text
 //! replica ── save ─> head_bytes, write_cell .., the digest ──> stream

@@ -58,9 +58,9 @@ fn raised(addition: Addition, archive: u8) -> u8
     }
 }
 
-/// Joins a cell that comes after another, if there is one. No further cell of that one's key comes
-/// if this one is of a later key: its finished rows are made ready to be shared then, so that no
-/// more than one series is held as it is built.
+/// Joins a cell that comes after another, if there is one. If this one is of a later key, no
+/// further cell of that one's key comes: its finished rows are then made ready to be shared, so
+/// that no more than one series is held as it is built.
 fn join_next<A: Cells>(
     replica: &mut Replica<A>,
     before: &Option<Cell>,
@@ -78,9 +78,9 @@ fn join_next<A: Cells>(
     replica.join_cell(cell)
 }
 
-/// Joins the cells after a head into a replica, each after the one before it, and answers whether
+/// Joins the cells after a head into a replica, each after the one before it, and returns whether
 /// one of them is of the replica's own origin. They are of the schema before the head's addition.
-/// No cell is kept but the last, for its name.
+/// Only the last cell is kept, for its name.
 fn join_cells_from<A: Cells, R: Read>(
     alloc: Global,
     input: &mut Counted<R>,
@@ -117,7 +117,7 @@ fn join_cells_from<A: Cells, R: Read>(
     Ok(has_own)
 }
 
-/// The same, with the schema before the addition made where there was one.
+/// The same, making the schema before the addition if there was one.
 fn join_cells_after<A: Cells, R: Read>(
     alloc: Global,
     input: &mut Counted<R>,
@@ -145,8 +145,8 @@ fn join_cells_after<A: Cells, R: Read>(
     }
 }
 
-/// Reads the snapshot that all of the input is into a replica of the reader's schema that holds no
-/// cell. `load` alone owns a replica, so that only there it is dropped where the load is refused.
+/// Reads a snapshot, which must be all of the input, into a replica of the reader's schema without
+/// cells. Only `load` owns a replica, so that it is dropped only there if the load is refused.
 fn load_into<A: Cells, R: Read>(
     alloc: Global,
     input: &mut Counted<R>,
@@ -175,28 +175,28 @@ fn load_into<A: Cells, R: Read>(
     Ok(())
 }
 
-/// Reads the snapshot that all of the input is, of the reader's schema or of one with one archive
-/// less, into a replica of a new origin, whose next number is 1. An archive that the snapshot's
-/// schema lacks has no cells; the numbers of those after it are higher by one than in the snapshot.
-/// Of the snapshot one cell's bytes are in memory at a time.
+/// Reads a snapshot, which must be all of the input, of the reader's schema or of one with one
+/// archive less, into a replica of a new origin, whose next number is 1. An archive that the
+/// snapshot's schema lacks has no cells; the numbers of those after it are higher by one than in
+/// the snapshot. One cell's bytes of the snapshot are in memory at a time.
 ///
-/// Refusals are those of the first fault from left to right: `ReadFailed` where a read fails;
-/// `Short` where fewer bytes are left than a field has; `BadMagic`; `BadVersion`; `SchemaDiffers`,
-/// once the step and the number of archives are read, and again once the archives are, if not both
-/// are those of the reader's schema, or of it without one archive; `BadOrigin`; for each cell those
-/// of [`read_cell`](rr_page::read_cell), and then `OutOfOrder` where its name is not greater than
-/// the one before; `BadDigest`; `TrailingBytes`; and last `OriginUsed` where the new origin is that
-/// of the snapshot or of one of its cells, those past the horizon too. `Memory` comes before
+/// Refused as the first fault from left to right: `ReadFailed` if a read fails; `Short` if fewer
+/// bytes are left than a field has; `BadMagic`; `BadVersion`; `SchemaDiffers`, once the step and
+/// the number of archives are read, and again once the archives are, unless both are those of the
+/// reader's schema, or of it without one archive; `BadOrigin`; for each cell those of
+/// [`read_cell`](rr_page::read_cell), and then `OutOfOrder` if its name is not greater than the one
+/// before; `BadDigest`; `TrailingBytes`; and last `OriginUsed` if the new origin is that of the
+/// snapshot or of one of its cells, including those past the horizon. `Memory` comes before
 /// anything is read, after a good head, or at a good cell that follows good ones, and never after
-/// the cells. A refused load gives no replica, and a prefix of the input has been read. The
-/// cost is that of joining the cells, and linear in the bytes.
+/// the cells. A refused load gives no replica, and a prefix of the input has been read. The cost is
+/// linear in the bytes, plus that of joining the cells.
 pub fn load<A: Cells, R: Read>(
     alloc: Global,
     input: &mut Counted<R>,
     schema: &Schema,
     new_origin: Origin,
 ) -> Result<Replica<A>, LoadFault>
-    // Where the bytes of the input are known, the answer is what they are loaded as.
+    // If the bytes of the input are known, the result is what they are loaded as.
     ensures read { IfSome (R.remaining (inner_of input.old)) (λ bytes.
         GivesIfRead replica_state result (loaded_at schema.now new_origin bytes)) }
     // Whatever the input is, the replica has this schema and origin, and the first number.

@@ -1,4 +1,4 @@
-//! A replica's cells, written as a snapshot.
+//! Writing a replica's cells as a snapshot.
 ghost use Rattle.std.specs.Prelude.{◌≡◌, ◌↔◌, ◌<◌, Err, OnOk};
 ghost use Rattle.std.specs.FinMap.{entries, len};
 ghost use Rattle.std.specs.Io.KnownBytes.{Keeps};
@@ -49,11 +49,11 @@ fn write_cells<A: Cells, W: Write>(
 }
 
 /// Writes the cells of a replica as a snapshot in the latest version, one after the other. Besides
-/// the replica there are a run of its cells and one cell's bytes in memory at a time.
+/// the replica, a run of its cells and one cell's bytes are in memory at a time.
 ///
-/// Refused as `TooManyCells` where there are more than 4,294,967,295 cells, and then nothing is
-/// written; as `WriteFailed` where the writer fails; and as `Memory`. After a refusal a prefix of
-/// the snapshot was written. The cost is linear in the series and in the bytes.
+/// Refused as `TooManyCells` if there are more than 4,294,967,295 cells, and then nothing is
+/// written; as `WriteFailed` if the writer fails; or as `Memory`. After a refusal, a prefix of the
+/// snapshot has been written. The cost is linear in the series and in the bytes.
 pub fn save<A: Cells, W: Write>(
     alloc: Global,
     replica: &Replica<A>,

@@ -22,10 +22,10 @@ use rr_text::limits::MAX_KEY_TEXT;
 use std::alloc::Global;
 use std::io::Read;
 
-/// How many bytes the longest cell has.
+/// How many bytes the longest cell takes.
 pub(crate) const MAX_CELL_LEN: usize = FIELDS_LEN + MAX_KEY_TEXT;
 
-/// How many bytes a cell has besides its key text.
+/// How many bytes a cell takes besides its key text.
 fn fields_len(version: Version) -> usize
     ensures value { result ≡ fields_len version }
     ensures at_least { 2 ≤ result }
@@ -37,7 +37,7 @@ fn fields_len(version: Version) -> usize
     }
 }
 
-/// How many bytes the cell has that begins so; where no cell begins so, as many as there are.
+/// The size in bytes of the cell with this prefix; if no cell begins with it, that of the prefix.
 fn cell_len(prefix: &[u8], version: Version) -> usize
     ensures value { result ≡ whole_len version prefix.now }
     ensures more { length prefix.now ≤ 2 → length prefix.now ≤ result }
@@ -55,8 +55,8 @@ fn cell_len(prefix: &[u8], version: Version) -> usize
     }
 }
 
-/// Reads after the first bytes of a buffer, up to a length or the end of the input, and answers how
-/// many bytes are then in its prefix.
+/// Reads into a buffer after its first `filled` bytes, up to `len` or the end of the input, and
+/// returns how many bytes are then filled.
 pub(crate) fn fill_up_to<R: Read>(
     input: &mut Counted<R>,
     buffer: &mut [u8],
@@ -71,9 +71,9 @@ pub(crate) fn fill_up_to<R: Read>(
     Ok(filled + more)
 }
 
-/// The cell at the beginning of what the input has, and how many bytes it has, which are in the
-/// prefix of the buffer. The input is read in two pieces, and no byte after the cell is taken.
-/// `Memory` comes only where a cell is there.
+/// The cell at the start of the remaining input, and the length of its bytes, which are a prefix of
+/// the buffer. The input is read in two pieces, and no byte after the cell is taken. `Memory` comes
+/// only if a cell is there.
 pub(crate) fn cell_from<R: Read>(
     alloc: Global,
     input: &mut Counted<R>,

@@ -1,4 +1,4 @@
-//! The pieces of a snapshot, written and digested.
+//! Writing and digesting the pieces of a snapshot.
 ghost use Rattle.std.specs.Prelude.{◌++◌, List, ℕ};
 ghost use Rattle.sha2.specs.Hashers.{Holds256};
 ghost use Rattle.rr_io.specs.Stream.{Writes};

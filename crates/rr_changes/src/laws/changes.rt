@@ -1,9 +1,9 @@
-//! ChangeTimes, and the changes within them.
+//! Change times, and the changes within them.
 ghost use Rattle.rr_changes.specs.ChangeLaws.{TrackedTimesAreIn, TimesStayIn, OneMoreIsTracked, UnchangingNeedsNoTracking, TrackedOperationsAreCovered, CoveredCellsAreAnUpdate, CoveredCellsMakeTheCells, PeriodsAreWrites, BatchesAreTheWhole, BatchesMakeTheCells, TrackedChangesMakeTheCells};
 
-/// A time that is tracked is in the ranges of its series, and stays there. So operations that are
-/// tracked as they come, by the numbers of their series, are covered by the list of changed series;
-/// one that changes no cell may be passed over.
+/// A time that is tracked is in the ranges of its series, and stays there. So operations tracked as
+/// they come, by the numbers of their series, are covered by the list of changed series; one that
+/// changes no cell may be skipped.
 pub fn tracked_operations_are_covered()
     ensures times { TrackedTimesAreIn }
     ensures stay { TimesStayIn }
@@ -13,8 +13,8 @@ pub fn tracked_operations_are_covered()
 {}
 
 /// The cells within ranges that cover all operations since a moment are an update since then:
-/// joined to the cells of then, all at once or in batches, they make the cells of now. So what is
-/// written from time to time are updates one after the other, which bring all in any order.
+/// joined to the cells of that moment, all at once or in batches, they make the cells of now. So
+/// periodic writes are updates one after the other, which bring all in any order.
 pub fn covered_cells_are_an_update()
     ensures update { CoveredCellsAreAnUpdate }
     ensures makes { CoveredCellsMakeTheCells }

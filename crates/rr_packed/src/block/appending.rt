@@ -1,4 +1,4 @@
-//! Entries added behind those of a row, as packed rows are read.
+//! Appending entries to rows, as packed rows are read.
 ghost use Rattle.std.specs.Prelude.{◌≡◌, [], ◌∷◌, ◌++◌, OnOk};
 ghost use Rattle.rr_archive.specs.Entries.{items_of};
 ghost use Rattle.rr_packed.specs.BlockRows.{items_in, IsRowSet};
@@ -10,7 +10,7 @@ use rr_archive::change::Change;
 use rr_archive::entries::Entries;
 use std::alloc::{AllocError, Global};
 
-/// Adds an entry behind others.
+/// Appends an entry.
 fn append_to(row: &mut Entries, alloc: Global, entry: Entry) -> Result<(), AllocError>
     ensures { OnOk result (items_of row.new ≡ items_of row.old ++ entry ∷ []) }
 {
@@ -34,8 +34,8 @@ fn append_to(row: &mut Entries, alloc: Global, entry: Entry) -> Result<(), Alloc
 }
 
 impl Block {
-    /// Adds an entry behind those of a row. A row of one entry is held as a lone sample, if it can
-    /// be one. The cost is that of `change`.
+    /// Appends an entry to a row. A row of one entry is held as a lone sample, if it can be one.
+    /// The cost is that of `change`.
     pub(crate) fn append(&mut self, number: RowNumber, entry: Entry) -> Result<(), AllocError>
         ensures { OnOk result (IsRowSet number.value
             (items_in self.old number.value ++ entry ∷ []) (items_in self.old)

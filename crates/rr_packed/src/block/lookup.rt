@@ -1,4 +1,4 @@
-//! What a block stores of a row, and of those after it.
+//! What a block stores for a row, and for those after it.
 ghost use Rattle.rr_packed.specs.BlockRows.{items_in};
 
 use crate::block::{BLOCK_ROWS, Block};
@@ -44,7 +44,7 @@ impl Rows for Block {
         next_on(self.mask(), number)
     }
 
-    /// Those that are held as samples are counted at once, by their bits; others one by one.
+    /// Rows held as samples are counted at once, by their bits; others one by one.
     fn entries_on(&self, rows: RowRange) -> usize {
         let read = self.samples.mask & !self.rows.mask;
         let mut count = match self.source {
