@@ -1,4 +1,4 @@
-//! What an archive of one series does: its cells, and its rows where they can be lent.
+//! The interface of an archive of one series: its cells, and its rows if they can be lent.
 ghost use Rattle.std.specs.Prelude.{◌≡◌, ℕ, Bool, ◌≤◌, IsTrue, IsOk, OnOk, OnErr, IfOk, [], length, slice_get, vec_capacity};
 ghost use Rattle.std.specs.Option.{option_map};
 ghost use Rattle.std.specs.FinMap as fin;
@@ -19,7 +19,7 @@ use std::alloc::{AllocError, Global};
 /// It keeps the cells whose slots are live: above the newest slot less the rows of the archive. A
 /// cell of any other slot is past the horizon and leaves no trace. Slots are from -9,223,372,037 to
 /// 9,223,372,037. Only `ready`, `change`, `put`, `join_cell` and `copy` take memory, and
-/// `entries_into` and `cells_into` where the list that they are given has too little.
+/// `entries_into` and `cells_into` if the list that they are given has too little.
 pub trait Cells: Drop {
     ghost cells: { Self → ArchiveCells };
 
@@ -42,8 +42,8 @@ pub trait Cells: Drop {
         ensures limit { row_limit result ≡ rows };
 
     /// Makes room for a cell, so that the next change of the cell of this slot and origin can't
-    /// fail. It changes no cell. Past the horizon no room is needed, and none is made; where there
-    /// is room already, it can't fail.
+    /// fail. It changes no cell. Past the horizon no room is needed, and none is made; if there is
+    /// room already, it can't fail.
     fn ready(&mut self, slot: i64, origin: Origin) -> Result<(), AllocError>
         requires { IsSlot slot }
         ensures same { IsSameArchive (row_limit self.old) (row_limit self.new) (cells self.old)
@@ -51,13 +51,13 @@ pub trait Cells: Drop {
         ensures room { OnOk result (IsTrue (is_ready self.new (cell_slot slot origin))) }
         ensures room_suffices { IsTrue (is_ready self.old (cell_slot slot origin)) → IsOk result };
 
-    /// Changes the cell of a slot and an origin, as `put` does by a sample and `join_cell` by a cell
-    /// from elsewhere.
+    /// Changes the cell of a slot and an origin, as `put` does with a sample and `join_cell` with a
+    /// cell from elsewhere.
     ///
     /// Rows that are past the horizon afterwards are dropped; a change that is itself past it does
-    /// nothing. After an error nothing has changed. The cost is at most logarithmic in the
-    /// rows (one look-up of the slot), and linear in the entries of the row, and in the rows that
-    /// go, empty ones too, and their entries.
+    /// nothing. After an error nothing has changed. The cost is at most logarithmic in the rows
+    /// (one look-up of the slot), and linear in the entries of the row and in the rows dropped,
+    /// empty ones included, and their entries.
     fn change(&mut self, slot: i64, origin: Origin, change: &Change) -> Result<(), AllocError>
         requires { CanTake (cells self.old) (cell_slot slot origin) change.now }
         ensures { ArchiveTakes (cell_slot slot origin)
@@ -66,8 +66,8 @@ pub trait Cells: Drop {
             (is_ready self.old (cell_slot slot origin)) (row_limit self.old) (row_limit self.new)
             (cells self.old) (cells self.new) result };
 
-    /// Puts a sample of an origin into a slot. Its number, place, time and value are those of
-    /// `Contribution::first`, or where the cell is there, of `Contribution::add`. The horizon,
+    /// Puts a sample of an origin into a slot. Its number, place, time and value are as for
+    /// `Contribution::first`, or as for `Contribution::add` if there is such a cell. The horizon,
     /// errors and the cost are those of `change`.
     fn put(
         &mut self,
@@ -116,18 +116,18 @@ pub trait Cells: Drop {
     fn newest(&self) -> Option<i64>
         ensures { result ≡ newest_of (fin.keys (cells self.now)) };
 
-    /// Writes the entries of a slot, ascending by origin, over what a row has. An error leaves the
-    /// row empty; there is none where it has room for them. The cost is at most logarithmic in the
-    /// rows, and linear in the entries.
+    /// Replaces a row with the entries of a slot, ascending by origin. An error leaves the row
+    /// empty; there is none if it has room for them. The cost is at most logarithmic in the rows,
+    /// and linear in the entries.
     fn entries_into(&self, slot: i64, row: &mut Vec<Entry>) -> Result<(), AllocError>
         ensures written { OnOk result (row.new.items ≡ row_of (cells self.now) slot) }
         ensures emptied { OnErr result (row.new.items ≡ []) }
         ensures room { length (row_of (cells self.now) slot) ≤ vec_capacity row.old → IsOk result };
 
-    /// Writes the cells of a run of slots from one on, in order, over what a list has, and answers
-    /// how many slots the run is of: as many as cost little to read together, so that whoever reads
-    /// rows one after the other asks once for many. After an error the list may have anything. The
-    /// cost is that of `entries_into`, and linear in the slots and the cells of the run.
+    /// Replaces a list with the cells of a run of slots from one on, in order, and returns how many
+    /// slots the run has: as many as cost little to read together, so that whoever reads rows one
+    /// after another asks once for many. After an error the list may have anything. The cost is
+    /// that of `entries_into`, and linear in the slots and the cells of the run.
     fn cells_into(&self, slot: i64, run: &mut Vec<(i64, Entry)>) -> Result<u32, AllocError>
         ensures some { IfOk result (λ slots. 1 ≤ slots) }
         ensures written { IfOk result
@@ -138,13 +138,13 @@ pub trait Cells: Drop {
         ensures { result ≡ fin.len (cells self.now) };
 
     /// The slot and the entry of a cell by its number, from 0, in order of slot and origin. The
-    /// cost is linear in the rows before it, so a walk over many cells goes on by `next_cell`.
+    /// cost is linear in the rows before it, so a walk over many cells continues with `next_cell`.
     fn cell_at(&self, i: usize) -> Option<(i64, Entry)>
         ensures { result ≡ option_map cell_of (slice_get (fin.entries (cells self.now)) i) };
 
     /// The first cell after a slot and an origin, in order. The cost is at most logarithmic in the
-    /// rows, and linear in those from the slot up to the one that it is found in, and in the
-    /// entries of that row.
+    /// rows, and linear in those from the slot up to the one where it is found, and in the entries
+    /// of that row.
     fn next_cell(&self, slot: i64, origin: Origin) -> Option<(i64, Entry)>
         ensures { result ≡ option_map cell_of
             (next_cell (cells self.now) (cell_slot slot origin)) };
@@ -154,10 +154,10 @@ pub trait Cells: Drop {
         ensures cells { IfOk result (λ a. cells a ≡ cells self.now) }
         ensures limit { IfOk result (λ a. row_limit a ≡ row_limit self.now) };
 
-    /// Makes rows that are likely to stay as they are ready to be shared by other archives; with
-    /// another archive, takes the rows that it has made ready in place of its own, where both hold
-    /// the same in them. It changes no cell. An archive that has no memory for it, or shares no
-    /// rows, does nothing.
+    /// Makes rows that are likely to stay as they are ready to be shared by other archives; given
+    /// another archive, takes the rows that it has made ready in place of its own, if both hold the
+    /// same in them. It changes no cell. An archive that has no memory for it, or shares no rows,
+    /// does nothing.
     fn share_rows(&mut self, other: Option<&Self>)
         ensures { IsSameArchive (row_limit self.old) (row_limit self.new) (cells self.old)
             (cells self.new) }
@@ -166,7 +166,7 @@ pub trait Cells: Drop {
     }
 }
 
-/// An archive that has its entries in memory as they are, and can lend them.
+/// An archive that keeps its entries in memory as they are, and can lend them.
 pub trait Archive: Cells {
     /// The entries of a slot, ascending by origin. The cost is at most logarithmic in the rows.
     fn row(&self, slot: i64) -> &[Entry]

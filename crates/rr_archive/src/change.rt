@@ -1,4 +1,4 @@
-//! What comes to a cell, and what the cell contributes then.
+//! Changes to a cell, and what the cell then contributes.
 ghost use Rattle.std.specs.Prelude.{◌≡◌, Some, IfSome};
 ghost use Rattle.rr_join.specs.Maps.{greater};
 ghost use Rattle.rr_contrib.specs.Contributions.{contribution_with, contribution_cmp};
@@ -9,14 +9,14 @@ use crate::new_sample::NewSample;
 use rr_contrib::Contribution;
 use rr_join::Join;
 
-/// What comes to a cell: a sample, or a contribution from elsewhere.
+/// A change to a cell: a sample, or a contribution from elsewhere.
 #[derive(Clone, Copy)]
 pub enum Change {
     Put(NewSample),
     Join(Contribution),
 }
 
-/// What a cell contributes with a sample more.
+/// What a cell contributes with one more sample.
 fn with_sample(known: Option<Contribution>, sample: &NewSample) -> Contribution
     requires { IfSome known (CanAdd sample.now.number) }
     ensures { result ≡ contribution_with known (sample_of sample.now) }
@@ -30,7 +30,7 @@ fn with_sample(known: Option<Contribution>, sample: &NewSample) -> Contribution
     }
 }
 
-/// What a cell contributes with a contribution joined in.
+/// What a cell contributes with another contribution joined.
 fn with_joined(known: Option<Contribution>, other: &Contribution) -> Contribution
     ensures { Some result ≡ greater contribution_cmp known (Some other.now) }
 {

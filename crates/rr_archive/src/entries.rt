@@ -31,7 +31,7 @@ pub fn first_entry(origin: Origin, change: &Change) -> Entry
     }
 }
 
-/// The list of an entry, with that of an origin changed.
+/// The list of one entry, after a change to that of an origin.
 fn two_entries(
     alloc: Global,
     old: Entry,
@@ -60,7 +60,7 @@ impl Entries {
         }
     }
 
-    /// Changes the entry of an origin, and says whether it is a new one.
+    /// Changes the entry of an origin, and returns whether it is new.
     pub fn change(
         &mut self,
         alloc: Global,
@@ -93,7 +93,7 @@ impl Entries {
         }
     }
 
-    /// Holds the entry of an origin and a change to it alone, in the memory of those before.
+    /// Replaces all entries with the one that a change makes for an origin, in the same memory.
     pub fn restart(&mut self, origin: Origin, change: &Change)
         requires { Fits (entry_at [] origin) change.now }
         ensures { items_of self.new ≡ entry_after [] origin change.now ∷ [] }

@@ -9,7 +9,7 @@ use std::mem::size_of;
 pub struct Entry {
     /// Whose samples these are.
     pub origin: Origin,
-    /// What they come to.
+    /// What they contribute.
     pub contribution: Contribution,
 }
 

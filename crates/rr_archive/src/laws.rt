@@ -1,8 +1,8 @@
-//! The laws of the cells of one archive, with no work to do: each function has an empty body.
+//! The laws of the cells of one archive: functions with empty bodies, whose contracts state them.
 ghost use Rattle.rr_archive.specs.Laws.{MergeIsCommutative, MergeIsAssociative, MergeIsIdempotent, JoinIsCommutative, JoinIsAssociative, JoinIsIdempotent, JoinIsTrimmed, CellsAreFew};
 
-/// To keep at each cell slot the greater contribution of two maps: in any order, in any grouping,
-/// and any number of times.
+/// Keeping the greater contribution of two maps at each cell slot gives the same in any order, in
+/// any grouping, and any number of times.
 pub fn merge_keeps_the_greater()
     ensures commutative { MergeIsCommutative }
     ensures associative { MergeIsAssociative }
@@ -10,7 +10,7 @@ pub fn merge_keeps_the_greater()
 {}
 
 /// Merging and then keeping the live rows gives the same in any order, in any grouping and any
-/// number of times, of maps that hold no other rows.
+/// number of times, for maps that hold no other rows.
 pub fn join_keeps_the_live()
     ensures commutative { JoinIsCommutative }
     ensures associative { JoinIsAssociative }
@@ -18,7 +18,7 @@ pub fn join_keeps_the_live()
     ensures trimmed { JoinIsTrimmed }
 {}
 
-/// However many samples were put and cells joined, an archive has at most as many cells as its rows
+/// However many samples are put and cells joined, an archive has at most as many cells as its rows
 /// times the origins.
 pub fn live_cells_are_few()
     ensures { CellsAreFew }

@@ -1,4 +1,4 @@
-//! Rows past the horizon, which leave an archive as the newest slot moves on.
+//! Rows past the horizon, which leave an archive as the newest slot advances.
 ghost use Rattle.std.specs.Prelude.{◌≡◌, Some, drop};
 ghost use Rattle.std.specs.FinMap as fin;
 ghost use Rattle.rr_join.specs.Horizon.{is_above};
@@ -18,7 +18,7 @@ impl Slots {
         }
     }
 
-    /// Takes the first row out, and says how many entries it has.
+    /// Removes the first row, and returns how many entries it had.
     fn drop_first(&mut self) -> usize
         ensures len { result ≡ first_len self.old.rows.entries }
         ensures rest { self.new.rows.entries ≡ drop 1 self.old.rows.entries }
@@ -29,9 +29,9 @@ impl Slots {
         }
     }
 
-    /// Takes the rows past the horizon out, and says how many of the cells are left.
+    /// Removes the rows past the horizon, and returns how many of the cells are left.
     ///
-    /// The cost is that of the rows that leave: none is walked over that stays.
+    /// The cost is that of the rows that leave: none that stays is visited.
     pub(crate) fn drop_dead(&mut self, cells: usize, rows: u32, newest: i64) -> usize
         requires { cells ≡ fin.len (cells_in self.old.rows.entries) }
         ensures live { cells_in self.new.rows.entries

@@ -5,14 +5,14 @@
 //! cell from elsewhere is joined: of two contributions at one cell slot the greater stays. Then
 //! only the live cells are kept, those whose slot is above the newest slot less the rows of the
 //! archive (`specs/CellSlots.antt`), so an archive never has more cells than its rows times the
-//! origins. Joined so, maps are the same in any order, in any grouping and any number of times
-//! (`laws`).
+//! origins. Joining maps this way gives the same in any order, in any grouping and any number of
+//! times (`laws`).
 //!
-//! An [`Archive`] lends the entries of a row besides; other kinds make them of less.
+//! An [`Archive`] also lends the entries of a row; other kinds make them from less.
 //!
 //! [`PlainArchive`] keeps its rows in an ordered map. What it shares with other kinds of archive is
 //! public: which slots are live ([`live_slots`]), what a cell contributes after a sample or a join
-//! ([`change`]), the entries of one row ([`row`]), and how a row is kept that mostly has one
+//! ([`change`]), the entries of one row ([`row`]), and how a row that mostly has one entry is kept
 //! ([`entries`]).
 #![tactic(auto)]
 

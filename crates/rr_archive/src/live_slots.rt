@@ -5,7 +5,7 @@ ghost use Rattle.rr_join.specs.Maps.{greater};
 ghost use Rattle.rr_join.specs.Horizon.{is_above};
 ghost use Rattle.rr_archive.specs.CellSlots.{IsSlot};
 
-/// Whether a slot is one of the last `rows` up to the newest, or after it.
+/// Whether a slot is among the last `rows` up to the newest, or after it.
 pub(crate) fn is_above(rows: u32, newest: i64, slot: i64) -> bool
     ensures { result ≡ is_above rows (Some newest) slot }
 {
@@ -22,7 +22,7 @@ pub fn is_live(rows: u32, newest: Option<i64>, slot: i64) -> bool
     }
 }
 
-/// The later of the newest slot so far, if there is one, and a slot.
+/// The later of a slot and the newest slot so far, if there is one.
 pub fn later(newest: Option<i64>, slot: i64) -> i64
     ensures { Some result ≡ greater int_cmp newest (Some slot) }
 {

@@ -27,8 +27,8 @@ pub struct PlainArchive {
 }
 
 impl PlainArchive {
-    /// Changes the cell of a slot and an origin, and lets go of the rows that are then past the
-    /// horizon. A change that is past it itself is passed over.
+    /// Changes the cell of a slot and an origin, and drops the rows that are then past the horizon.
+    /// A change that is itself past it is skipped.
     fn change_cell(&mut self, slot: i64, origin: Origin, change: &Change) -> Result<(), AllocError>
         requires { CanTake (cells_in self.old.slots.rows.entries) (cell_slot slot origin)
             change.now }

@@ -27,14 +27,14 @@ fn entry_at(row: &[Entry], origin: Origin) -> Option<Contribution>
         .map(|entry| entry.contribution)
 }
 
-/// Whether an entry is of a later slot than an origin's, or after the origin in its own.
+/// Whether an entry is in a later slot than an origin, or after the origin in the same slot.
 pub fn is_after(entry: &Entry, is_later: bool, origin: Origin) -> bool
     ensures { result ≡ is_after is_later origin entry.now }
 {
     is_later || origin < entry.origin
 }
 
-/// The first entry of a later slot than an origin's, or the first after it in its own.
+/// The first entry in a later slot than an origin, or the first after it in the same slot.
 pub fn first_after(row: &[Entry], is_later: bool, origin: Origin) -> Option<Entry>
     ensures { result ≡ find (is_after is_later origin) row.now }
 {
@@ -67,7 +67,7 @@ fn set_entry(row: &mut Vec<Entry>, entry: Entry) -> Result<(), AllocError>
     Ok(())
 }
 
-/// Changes the entry of an origin, and says whether it is a new one.
+/// Changes the entry of an origin, and returns whether it is new.
 pub fn change_entry(
     row: &mut Vec<Entry>,
     origin: Origin,

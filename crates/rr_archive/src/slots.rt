@@ -35,8 +35,8 @@ impl Slots {
         }
     }
 
-    /// Changes the cell of a slot and an origin, and says whether it is a new one. The map is
-    /// searched for the slot once, and again only where the row is new.
+    /// Changes the cell of a slot and an origin, and returns whether it is new. The map is searched
+    /// for the slot once, and again only if the row is new.
     pub(crate) fn change_cell(
         &mut self,
         alloc: Global,
@@ -70,7 +70,7 @@ impl Slots {
         }
     }
 
-    /// Makes room for one entry more in the row of a slot.
+    /// Makes room for one more entry in the row of a slot.
     pub(crate) fn make_room(&mut self, alloc: Global, slot: i64) -> Result<(), AllocError>
         ensures cells { cells_in self.new.rows.entries ≡ cells_in self.old.rows.entries }
         ensures room { (origin : ℕ)
@@ -81,7 +81,7 @@ impl Slots {
         match self.rows.get_mut(&slot) {
             Some(row) => row.reserve(1),
             None => {
-                // Most rows stay of one origin, so no more than its entry is taken room for.
+                // Most rows stay of one origin, so room is taken only for its entry.
                 let row = Vec::with_capacity(alloc, 1)?;
                 self.rows.insert(slot, row)?;
                 Ok(())

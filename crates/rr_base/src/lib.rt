@@ -1,9 +1,9 @@
-//! The names that every other crate of the store speaks, and no code: origins, the schema of
+//! The names that every other crate of the store uses, and no code: origins, the schema of
 //! archives, and streams that count failed calls.
 //!
 //! `rr_schema` has [`Origin`] and [`Schema`], `rr_document` reads a schema from TOML, as
-//! [`FromToml`], and `rr_io` has [`Counted`], [`Failing`] and [`stream`]. A crate that stands on
-//! one of them alone uses that one.
+//! [`FromToml`], and `rr_io` has [`Counted`], [`Failing`] and [`stream`]. A crate that needs only
+//! one of them uses that one.
 #![tactic(auto)]
 
 pub use rr_document::FromToml;

@@ -10,7 +10,7 @@ use rr_key::SeriesKey;
 use rr_schema::{Origin, Schema};
 use std::alloc::AllocError;
 
-/// A cell: what an origin contributes to a slot of an archive of a key, which is lent.
+/// A cell: what an origin contributes to a slot of an archive of a key. The key is lent.
 #[derive(Clone, Copy)]
 pub struct CellRef<'a> {
     /// The key of the series.
@@ -21,11 +21,11 @@ pub struct CellRef<'a> {
     pub slot: i64,
     /// Whose samples these are.
     pub origin: Origin,
-    /// What they come to.
+    /// What they contribute.
     pub contribution: Contribution,
 }
 
-/// A cell that owns its key, as it came from elsewhere.
+/// A cell that owns its key, as one from elsewhere does.
 #[derive(Drop)]
 pub struct Cell {
     /// The key of the series.
@@ -36,7 +36,7 @@ pub struct Cell {
     pub slot: i64,
     /// Whose samples these are.
     pub origin: Origin,
-    /// What they come to.
+    /// What they contribute.
     pub contribution: Contribution,
 }
 
@@ -68,7 +68,7 @@ impl Cell {
         ensures tested { result ≡ is_cell_of schema.now (owned_cell self.now) }
         ensures cell { IsTrue result ↔ IsCellOf schema.now (owned_cell self.now) }
     {
-        // The proof needs what the key and the origin keep to, which these ensure.
+        // The proof needs the invariants of the key and the origin, which these ensure.
         let _text = self.key.text();
         let _number = self.origin.get();
         is_cell_of(schema, self.archive, self.slot, self.contribution)
@@ -88,7 +88,7 @@ impl Cell {
     }
 }
 
-/// Whether a contribution makes a cell of a slot of an archive, of any key and origin.
+/// Whether a contribution makes a cell of a slot of an archive, for any key and origin.
 fn is_cell_of(schema: &Schema, archive: u8, slot: i64, contribution: Contribution) -> bool
     ensures tested { (key : List ℕ) (origin : ℕ)
         → result ≡ is_cell_of schema.now (cell_name key archive slot origin, contribution) }

@@ -1,4 +1,4 @@
-//! The laws, with no work to do: each function has an empty body.
+//! The laws: functions with empty bodies, whose contracts state them.
 
 pub mod cells;
 pub mod knowledge;

@@ -5,12 +5,12 @@ use crate::sample::Sample;
 use rr_key::SeriesKey;
 use std::alloc::AllocError;
 
-/// A step in the life of a replica: one sample more, or a cell from elsewhere.
+/// A step in the life of a replica: one more sample, or a cell from elsewhere.
 #[derive(Drop)]
 pub enum Op {
     /// A sample is put under its number.
     Put(Sample),
-    /// A cell is joined in.
+    /// A cell is joined.
     Join(Cell),
 }
 
@@ -18,7 +18,7 @@ impl Op {
     ghost use Rattle.std.specs.Prelude.{◌≡◌, IfOk};
     ghost use Rattle.rr_cells.specs.Operations.{op_key};
 
-    /// The key of the series that it is of.
+    /// The key of its series.
     pub fn key(&self) -> &SeriesKey
         ensures { result.now ≡ op_key self.now }
     {

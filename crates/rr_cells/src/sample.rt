@@ -6,7 +6,7 @@ use std::alloc::AllocError;
 
 /// What an origin writes under a number: a value of a series at a time.
 ///
-/// The number is any of the type: a replica says which it takes.
+/// The number may be any of its type: a replica says which it takes.
 #[derive(Drop)]
 pub struct Sample {
     /// Who writes it.

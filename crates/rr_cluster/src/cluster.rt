@@ -24,7 +24,7 @@ pub(crate) struct Cluster<A: Cells> {
     pub(crate) pages: BTreeMap<Vec<u8>, Vec<u8>>,
     /// The bytes of the snapshots, by their names.
     pub(crate) snapshots: BTreeMap<Vec<u8>, Vec<u8>>,
-    /// The origins that were used.
+    /// The origins used so far.
     pub(crate) origins: BTreeSet<u16>,
     ghost within: { IsLayout schema },
 }
@@ -35,7 +35,7 @@ impl<A: Cells> Cluster<A> {
     ghost use Rattle.rr_cluster.specs.Meaning.{node_in, HasPageText, Leaves, Represents};
     ghost use Rattle.rr_cluster.specs.State.{State, first_state, with_node, with_page};
 
-    /// A cluster without nodes, pages and snapshots.
+    /// A cluster without nodes, pages or snapshots.
     pub(crate) fn new(alloc: Global, schema: Schema) -> Cluster<A>
         requires { IsLayout schema }
         ensures { Represents result (first_state schema) }
@@ -52,8 +52,8 @@ impl<A: Cells> Cluster<A> {
         }
     }
 
-    /// Makes a replica the node of a name, and its origin one that was used. A node of that name is
-    /// replaced.
+    /// Makes a replica the node of a name, and adds its origin to those used. A node of that name
+    /// is replaced.
     pub(crate) fn put_node(&mut self, name: &[u8], replica: Replica<A>) -> Result<(), Stop>
         ensures { (m : State Cells) → Represents self.old m → replica.schema ≡ self.old.schema
             → Leaves self.new m result (Ok (with_node m name.now (node_in replica))) }

@@ -42,7 +42,7 @@ use std::alloc::Global;
 use upgrade::upgrade;
 use write::write_line;
 
-/// Obeys a command, and adds what it prints to the text. Until the schema is set there is no
+/// Runs a command, and adds what it prints to the text. Until the schema is set there is no
 /// cluster.
 pub(crate) fn run_command<A: Cells>(
     alloc: Global,
@@ -64,7 +64,7 @@ pub(crate) fn run_command<A: Cells>(
     }
 }
 
-/// Obeys the first command, which has to be `schema`.
+/// Runs the first command, which must be `schema`.
 fn begin<A: Cells>(alloc: Global, event: Event<'_>) -> Result<Cluster<A>, Stop>
     ensures { Begins result (step cell_model None (view_of event.entry)) }
 {
@@ -77,7 +77,7 @@ fn begin<A: Cells>(alloc: Global, event: Event<'_>) -> Result<Cluster<A>, Stop>
     }
 }
 
-/// Obeys a command once the schema is set.
+/// Runs a command once the schema is set.
 fn run_later_command<A: Cells>(
     cluster: &mut Cluster<A>,
     event: Event<'_>,
@@ -115,7 +115,7 @@ fn run_later_command<A: Cells>(
     }
 }
 
-/// Adds an answer to the text, unless there is none.
+/// Adds an answer to the text, if there is one.
 fn print(answer: Result<Vec<u8>, Stop>, text: &mut Vec<u8>) -> Result<(), Stop>
     ensures { (due : Result (List ℕ) CommandFault) → Gives (λ parsed. parsed.items) answer due
         → Matches (λ _ parsed. text.new.items ≡ text.old.items ++ parsed)

@@ -19,11 +19,11 @@ use rr_ring::RingArchive;
 use rr_text::refusal::push_refusal;
 use std::alloc::Global;
 
-/// What a script prints: the answers of its fetches, and `line N: NAME` for each command that is
-/// refused, in the order of its lines.
+/// What a script prints: the answers of its fetches, the bytes of pages, and `line N: NAME` for
+/// each refused command, in the order of its lines.
 ///
 /// The cost of a line is that of its own command: a write looks up its node, its series and its
-/// slot; a page goes to its first cell, and on from cell to cell; a delivery looks up the series
+/// slot; a page finds its first cell, and goes on from cell to cell; a delivery looks up the series
 /// and the slot of each cell; a fetch looks up its node and its series, and one slot for each row.
 pub fn run(alloc: Global, script: &[u8]) -> Result<Vec<u8>, RunFault>
     ensures cells { IfOk result (λ text. text.items ≡ output_of cell_model script.now) }
@@ -32,7 +32,8 @@ pub fn run(alloc: Global, script: &[u8]) -> Result<Vec<u8>, RunFault>
     run_on::<RingArchive>(alloc, script)
 }
 
-/// What a script prints, as [`run`] says, with the series of all nodes in archives of this kind.
+/// What a script prints, as [`run`] gives it, with the series of all nodes in archives of this
+/// kind.
 pub fn run_on<A: Cells>(alloc: Global, script: &[u8]) -> Result<Vec<u8>, RunFault>
     ensures { IfOk result (λ text. IsOutput script.now text.items) }
 {
@@ -45,7 +46,7 @@ pub fn run_on<A: Cells>(alloc: Global, script: &[u8]) -> Result<Vec<u8>, RunFaul
     Ok(text)
 }
 
-/// Obeys a line, and adds what it prints to the text.
+/// Runs a line, and adds what it prints to the text.
 fn run_line<A: Cells>(
     alloc: Global,
     cluster: &mut Option<Cluster<A>>,

@@ -40,8 +40,8 @@ pub(crate) fn push_number(bytes: &mut Vec<u8>, number: u128) -> Result<(), Alloc
     push_bytes(bytes, number)
 }
 
-/// Whether no number written in its fewest bytes has these bits above its lowest seven: they are all
-/// zero, or too many for 128 bits.
+/// Whether no number written in its fewest bytes has these bits above its lowest seven: they are
+/// all zero, or too many for 128 bits.
 fn is_bad_high(high: u128) -> bool
     ensures { result ≡ is_bad_high high }
 {

@@ -1,8 +1,8 @@
 //! The laws of configurations, as functions with empty bodies.
 ghost use Rattle.rr_config.specs.Laws.{ConfigsAreOfTheirKeys, ConfigsAreWithinLimits, NodeConfigsAreOfTheirKeys, NodeConfigsAreWithinLimits};
 
-/// Whatever a text says, a configuration that isn't refused has 1 to 16 fetch addresses, and where it
-/// limits a wait, it is from a second to a day.
+/// Whatever a text says, a configuration that isn't refused has 1 to 16 fetch addresses, and where
+/// it limits a wait, it is from a second to a day.
 pub fn configs_are_within_limits()
     ensures { ConfigsAreWithinLimits }
 {}

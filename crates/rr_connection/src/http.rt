@@ -148,8 +148,8 @@ impl HttpConnection {
         }
     }
 
-    /// The size of a body, from the bytes that have arrived and those still to come; at most the size
-    /// that a body may have.
+    /// The size of a body, from the bytes that have arrived and those still to come; at most the
+    /// size that a body may have.
     fn whole(&self, came: usize, left: u64) -> usize
         ensures { result ≡ min (came + left) self.now.max_body }
     {

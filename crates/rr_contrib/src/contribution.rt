@@ -15,12 +15,12 @@ pub type Mask = u128;
 
 const _: () = prove!(MAX_STEPS <= Mask::BITS);
 
-/// What the samples of one origin in one slot come to. Ordered by the fields, in their order.
+/// The summary of one origin's samples in one slot. Ordered by the fields, in their order.
 #[derive(Clone, Copy, Debug, PartialEq, Eq, PartialOrd, Ord)]
 pub struct Contribution {
     /// The greatest number of the samples.
     pub version: u64,
-    /// How many samples they are.
+    /// How many samples there are.
     pub count: u64,
     /// The sum of their values.
     pub sum: i128,
@@ -30,9 +30,9 @@ pub struct Contribution {
     pub max: i64,
     /// The time of the last sample, in nanoseconds since the Unix epoch.
     pub last_time: i64,
-    /// The value of the last sample by time, and at one time by number.
+    /// The value of the last sample by time, and at equal times by number.
     pub last_value: i64,
-    /// The places that the samples fell in. Last, since its sixteen bytes leave no padding so.
+    /// The places that the samples fell in. Last, since its sixteen bytes then leave no padding.
     pub mask: Mask,
 }
 
@@ -74,7 +74,7 @@ impl Contribution {
     /// The contribution of one sample: its number, its place in the slot, its time in nanoseconds
     /// since the Unix epoch and its value.
     ///
-    /// The number is from 1 to 2^40, the place below 128.
+    /// The number must be from 1 to 2^40, the place below 128.
     pub fn first(number: u64, place: u32, time: i64, value: i64) -> Contribution
         requires { IsNumbered number place }
         ensures value { result ≡ of_one (slot_sample number place time value) }
@@ -103,10 +103,10 @@ impl Contribution {
         }
     }
 
-    /// Adds a sample, by what [`Contribution::first`] says of it.
+    /// Adds a sample, given as for [`Contribution::first`].
     ///
-    /// The sample is newer than all that this contribution sums up: its number is greater than the
-    /// version.
+    /// The sample must be newer than all that this contribution sums up: its number is greater than
+    /// the version.
     pub fn add(&mut self, number: u64, place: u32, time: i64, value: i64)
         requires sample { IsNumbered number place }
         requires newer { self.old.version < number }
@@ -115,7 +115,7 @@ impl Contribution {
         requires high { self.old.sum ≤ℤ (pos self.old.count *ℤ self.old.max) }
         ensures value { self.new ≡ with_sample self.old (slot_sample number place time value) }
 
-        // What these samples contribute, and then these with one sample more.
+        // What these samples contribute, and then these with one more sample.
         ensures samples { (xs : List SlotSample) → contribution_of xs ≡ Some self.old
             → contribution_of (slot_sample number place time value ∷ xs) ≡ Some self.new }
         ensures valid { KeepsValid (slot_sample number place time value) self.old self.new }

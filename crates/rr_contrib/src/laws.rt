@@ -1,7 +1,7 @@
-//! A law of contributions, with no work to do: the function has an empty body.
+//! A law of contributions: a function with an empty body, whose contract states it.
 ghost use Rattle.rr_contrib.specs.Validity.{ValidityIsTested};
 
-/// The test that the reading of a cell makes says whether the contribution is valid.
+/// The test made when a cell is read says whether the contribution is valid.
 pub fn validity_is_tested()
     ensures { ValidityIsTested }
 {}

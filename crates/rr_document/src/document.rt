@@ -14,26 +14,26 @@ use std::alloc::Global;
 use std::str;
 use toml::{Table, Value};
 
-/// A schema that a document in TOML writes.
+/// A schema that can be read from a TOML document.
 pub trait FromToml: Sized {
     /// The step and the archives.
     ghost layout: { Self → Layout };
 
-    /// The schema of a table, as of a configuration. Other keys are ignored.
+    /// The schema of a table, such as that of a configuration. Other keys are ignored.
     ///
     /// The keys are `step`, a whole number of seconds, and `archive`, an array of tables with the
     /// whole numbers `steps`, `rows`, `xff_num` and `xff_den`. Refusals, key by key in this order:
     /// `MissingField`, `WrongKind`; then those of [`Schema::new`], where a number that doesn't fit
-    /// 32 bits is out of its range. The cost is linear in the archives, but for the look-ups.
+    /// in 32 bits is out of range. The cost is linear in the archives, apart from the look-ups.
     fn from_table(alloc: Global, table: &Table) -> Result<Self, SchemaFault>
         ensures read { GivesUnless SchemaFault.Memory layout result
             (layout_in (table_view table.now)) }
         ensures memory { NeedsMemoryAfter SchemaFault.Memory (tables_in (table_view table.now))
             result };
 
-    /// The schema that a text writes.
+    /// The schema that a text says.
     ///
-    /// `BadToml` comes first, where the text is not UTF-8 or not TOML; then the refusals of
+    /// `BadToml` comes first, if the text is not UTF-8 or not TOML; then the refusals of
     /// [`from_table`](FromToml::from_table). The cost is that of reading the text once.
     fn from_toml(alloc: Global, text: &[u8]) -> Result<Self, SchemaFault>
         ensures read { GivesUnless SchemaFault.Memory layout result (layout_of text.now) }
@@ -51,7 +51,7 @@ fn value_at<'a>(table: &'a Table, key: &str) -> Result<&'a Value, SchemaFault>
     }
 }
 
-/// A number that doesn't fit becomes the greatest one, which is past each limit of a schema.
+/// A number that doesn't fit becomes the greatest one, which exceeds every limit of a schema.
 fn in_32_bits(number: i64) -> u32
     ensures { result ≡ in_32_bits number }
 {

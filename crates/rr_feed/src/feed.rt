@@ -17,10 +17,10 @@ use std::marker::Model;
 /// Bytes that come in pieces and go out as lines.
 ///
 /// A feed holds the bytes that are left: what was pushed and neither handed out nor skipped. Once
-/// [`Feed::next_line`] has answered `None`, these are at most
+/// [`Feed::next_line`] has returned `None`, these are at most
 /// [`MAX_LINE`](rr_text::limits::MAX_LINE), so what a feed holds is bounded by one line and the
-/// pieces pushed since. Bytes that were handed out stay in memory until a push finds as many of
-/// them as are left.
+/// pieces pushed since. Bytes that were handed out stay in memory until a push finds at least as
+/// many of them as are left.
 ///
 /// However a stream is cut, each of its bytes is searched once, and no more bytes are moved than
 /// were handed out or skipped.
@@ -31,7 +31,7 @@ pub struct Feed {
     start: usize,
     /// How many of the bytes that are left are known to hold no line feed.
     searched: usize,
-    /// Whether the bytes that are left begin within a line that was reported as too long.
+    /// Whether the bytes that are left begin within a line already reported as too long.
     skipping: bool,
     ended: bool,
 }
@@ -50,7 +50,7 @@ impl Model for Feed {
 }
 
 impl Feed {
-    /// A feed that nothing was pushed into. It takes no memory yet.
+    /// A feed into which nothing was pushed. It takes no memory yet.
     pub fn new(alloc: Global) -> Feed
         ensures { result ≡ empty_feed }
     {
@@ -63,10 +63,10 @@ impl Feed {
         }
     }
 
-    /// Takes in the next piece of the stream, of any size.
+    /// Takes the next piece of the stream, of any size.
     ///
-    /// It is refused as `Ended` after [`Feed::end`], and as `Memory` where memory runs out; the
-    /// feed is then unchanged. The cost is linear in the piece, on average over all pushes.
+    /// Refused as `Ended` after [`Feed::end`], and as `Memory` if memory runs out; the feed is then
+    /// unchanged. The cost is linear in the piece, amortized over all pushes.
     pub fn push(&mut self, piece: &[u8]) -> Result<(), FeedFault>
         ensures ok { OnOk result
             (self.new ≡ record self.old { left = self.old.left ++ piece.now }) }
@@ -81,8 +81,8 @@ impl Feed {
         Ok(())
     }
 
-    /// Gives up the bytes that were handed out or skipped, unless more than these are left: so no
-    /// more bytes are ever moved than were given up.
+    /// Drops the bytes that were handed out or skipped, unless more than these are left: so no more
+    /// bytes are ever moved than were dropped.
     fn move_to_front(&mut self)
         ensures { self.new ≡ self.old }
     {
@@ -99,10 +99,10 @@ impl Feed {
         self.ended = true;
     }
 
-    /// Hands out the next line, or reports that it is too long, once enough of it came.
+    /// Hands out the next line, or reports that it is too long, once enough of it has come.
     ///
-    /// The cost is linear in the bytes that are searched for its line feed, each of them once. No
-    /// memory is taken.
+    /// The cost is linear in the bytes searched for its line feed, each of them once. No memory is
+    /// taken.
     pub fn next_line(&mut self) -> Option<FeedLine<'_>>
         ensures* item { sem 𝓛 (Rests the_row self.entry
             (λ new. HandsOut self.old (option_map item_view result) new)) }

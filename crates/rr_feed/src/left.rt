@@ -2,7 +2,7 @@
 
 ghost use Rattle.rr_feed.specs.Next.{IsSearched};
 
-/// The bytes that are left, of which the first `searched` are known to hold no line feed.
+/// The bytes that are left, the first `searched` of which are known to hold no line feed.
 #[derive(Clone, Copy)]
 pub(crate) struct Left<'a> {
     pub(crate) bytes: &'a [u8],

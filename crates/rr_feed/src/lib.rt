@@ -11,9 +11,9 @@
 //! pieces ── push ──> bytes that are left ── next_line ──> lines
 //! ```
 //!
-//! In `specs/` the items of a byte stream are a function of its bytes, and what a feed holds is the
-//! bytes that are left, with a mark while a long line is skipped. [`laws`] says that what is handed
-//! out depends on the bytes pushed alone, and not on how they were cut.
+//! In `specs/`, the items of a byte stream are a function of its bytes, and what a feed holds is
+//! the bytes that are left, with a flag while a long line is skipped. [`laws`] says that what is
+//! handed out depends only on the bytes pushed, and not on how they were cut.
 #![tactic(auto)]
 
 mod fault;

@@ -20,7 +20,8 @@ pub(crate) struct Next<'a> {
     pub(crate) skipping: bool,
 }
 
-/// The bytes before the first line feed, and those after it. What is searched isn't searched again.
+/// The bytes before the first line feed, and those after it. What was searched isn't searched
+/// again.
 fn cut_line(left: Left<'_>) -> Option<(&[u8], &[u8])>
     ensures { MatchOption result (HasNoLineFeed left.entry.bytes.now)
         (λ cut. IsCut left.entry.bytes.now cut.0.now cut.1.now) }
@@ -34,14 +35,14 @@ fn cut_line(left: Left<'_>) -> Option<(&[u8], &[u8])>
     }
 }
 
-/// Whether these are more bytes than a line has.
+/// Whether these are more bytes than a line may have.
 fn is_too_long(bytes: &[u8]) -> bool
     ensures { result ≡ nat_lt MAX_LINE (length bytes.now) }
 {
     bytes.len() > MAX_LINE
 }
 
-/// What a line feed ends.
+/// The item that a line feed ends.
 fn whole_line(line: &[u8]) -> FeedLine<'_>
     ensures { item_view result ≡ item_of line.now }
 {
@@ -69,14 +70,14 @@ fn next_of_line(left: Left<'_>, ended: bool) -> Next<'_>
     }
 }
 
-/// Whether bytes with no line feed are a line.
+/// Whether bytes without a line feed are a line.
 fn is_last_line(left: &[u8], ended: bool) -> bool
     ensures { result ≡ (ended && not (length left.now == 0)) }
 {
     ended && !left.is_empty()
 }
 
-/// The next item of bytes with no line feed.
+/// The next item of bytes without a line feed.
 fn next_of_last(left: &[u8], ended: bool) -> Next<'_>
     requires { HasNoLineFeed left.now }
     ensures { GivesNext left.now false ended result }
@@ -113,8 +114,8 @@ fn next_of_last(left: &[u8], ended: bool) -> Next<'_>
 
 /// The next item of the bytes that are left.
 ///
-/// The cost is linear in the bytes that aren't searched yet, up to the line feed that ends the
-/// item, or that ends the line that is skipped.
+/// The cost is linear in the bytes not searched yet, up to the line feed that ends the item or the
+/// line being skipped.
 pub(crate) fn next_item(left: Left<'_>, skipping: bool, ended: bool) -> Next<'_>
     ensures { GivesNext left.entry.bytes.now skipping ended result }
 {

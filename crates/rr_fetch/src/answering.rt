@@ -1,4 +1,4 @@
-//! What a replica answers to a request.
+//! The answers of a replica to requests.
 
 ghost use Rattle.std.specs.Prelude.{◌≡◌, ◌*◌, ◌<◌, ◌≤◌, ◌+◌, ◌-◌, ◌^◌, min, ◌+ℤ◌, ◌*ℤ◌, pos, unsigned_abs, [], ◌∷◌, length, map, Err, IfOk, IfSome, OnOk};
 ghost use Rattle.std.specs.Vec.{vec_capacity};
@@ -54,7 +54,7 @@ fn lone_entry(cells: &[(i64, Entry)]) -> Option<&Entry>
     }
 }
 
-/// Writes the entries of cells over those of a row.
+/// Replaces the entries of a row with those of cells.
 fn copy_entries(cells: &[(i64, Entry)], entries: &mut Vec<Entry>) -> Result<(), AllocError>
     ensures { OnOk result (entries.new.items ≡ map (λ c. c.1) cells.now) }
 {
@@ -65,8 +65,8 @@ fn copy_entries(cells: &[(i64, Entry)], entries: &mut Vec<Entry>) -> Result<(), 
     Ok(())
 }
 
-/// What the request's function makes of a slot. The entries are written over those of a row, unless
-/// there is one alone.
+/// The value of a slot by the request's function. `entries` is overwritten, unless the slot has
+/// exactly one entry.
 fn value_at<A: Cells>(
     rows: &mut Rows<'_, A>,
     slot: i64,
@@ -90,8 +90,8 @@ fn value_at<A: Cells>(
     Ok(consolidate(entries, schema, request.archive, request.cf))
 }
 
-/// An empty text with room for as many rows, of the longest records behind what each begins with,
-/// and no more.
+/// An empty text with room for this many rows, each of the longest record with this prefix, and no
+/// more.
 fn text_for(alloc: Global, prefix: &[u8], rows: u32) -> Result<Vec<u8>, AllocError>
     ensures empty { IfOk result (λ text. text.items ≡ []) }
     ensures room { IfOk result (λ text. vec_capacity text
@@ -101,14 +101,14 @@ fn text_for(alloc: Global, prefix: &[u8], rows: u32) -> Result<Vec<u8>, AllocErr
     Vec::with_capacity(alloc, room)
 }
 
-/// The answer to a request as CSV: for each row a record of the key text, the start second and the
-/// value, or `U` for an unknown one, ended by a line feed.
+/// The answer to a request as CSV: for each row a record of the key text, the start second, and the
+/// value or `U` if it is unknown, ended by a line feed.
 ///
-/// The request's archive is one of the replica's schema, its first slot is at most
-/// [`MAX_SECOND`] either side of the epoch, and its rows are from 1 to [`MAX_FETCH_ROWS`]. The cost
-/// is one look-up of the key, for each run of slots that the archive reads at once a look-up of its
-/// first slot, and for each row a pass over its entries. Memory is taken at once for the longest
-/// records that the rows can have, and for the longest run.
+/// The request's archive must be one of the replica's schema, its first slot at most [`MAX_SECOND`]
+/// either side of the epoch, and the number of its rows from 1 to [`MAX_FETCH_ROWS`]. The cost is
+/// one look-up of the key, one look-up of the first slot of each run that the archive reads at
+/// once, and a pass over the entries of each row. Memory is taken at once for the longest records
+/// that the rows can have, and for the longest run.
 pub fn answer_text<A: Cells>(
     alloc: Global,
     replica: &Replica<A>,
@@ -137,8 +137,8 @@ pub fn answer_text<A: Cells>(
 
 /// Makes the answer to a request, as [`answer_text`] does, and then writes it.
 ///
-/// `Memory` writes nothing. `WriteFailed` leaves a prefix of the text written, and is answered only
-/// where a call of the writer failed.
+/// `Memory` writes nothing. `WriteFailed` leaves a prefix of the text written, and is returned only
+/// if a call of the writer failed.
 pub fn answer<A: Cells, W: Write>(
     alloc: Global,
     replica: &Replica<A>,

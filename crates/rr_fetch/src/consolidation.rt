@@ -1,4 +1,4 @@
-//! The row that the contributions of its origins make.
+//! A row, made from the contributions of its origins.
 
 ghost use Rattle.std.specs.Prelude.{◌≡◌, ◌∷◌, [], Some, map, count_ones};
 ghost use Rattle.std.specs.Option.{option_map};
@@ -12,13 +12,13 @@ use rr_archive::Entry;
 use rr_contrib::Mask;
 use rr_schema::{ConsolidationFunction, Schema};
 
-/// What a function makes of the entries of a row, or `None` where the row is unknown: where
-/// more than the fraction xff of its steps has no sample of any origin.
+/// The value of a function for the entries of a row, or `None` if the row is unknown: if more than
+/// the fraction xff of its steps has no sample of any origin.
 ///
-/// An average is the floor of the mean of all samples. The last sample is that of the greatest
-/// time, and at one time of the greatest origin.
+/// An average is the floor of the mean of all samples. The last sample is the one with the greatest
+/// time, and at equal times with the greatest origin.
 ///
-/// The origins of the entries ascend. Each contribution has a count from 1 to
+/// The origins of the entries must ascend, and each contribution must have a count from 1 to
 /// [`MAX_NUMBER`](rr_text::limits::MAX_NUMBER) and a sum from `count * min` to `count * max`. The
 /// cost is linear in the entries.
 #[tactic(auto, unfolding(crate::specs::Consolidation::consolidation_of))]
@@ -42,7 +42,7 @@ pub fn consolidate(
     }
 }
 
-/// What a function makes of a row of one entry, as [`consolidate`] does.
+/// The value of a function for a row of one entry, as [`consolidate`] gives it.
 #[tactic(auto, unfolding(crate::specs::Consolidation::consolidation_of))]
 pub(crate) fn consolidate_one(
     entry: &Entry,

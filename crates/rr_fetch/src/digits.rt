@@ -1,4 +1,4 @@
-//! Numbers at the end of a buffer: a record's are written from its last byte on, and added at once.
+//! Numbers at the end of a buffer: those of a record are written back to front, and added at once.
 
 ghost use Rattle.std.specs.Prelude.{◌≡◌, ◌≤◌, ◌+◌, ◌∷◌, length, drop};
 ghost use Rattle.std.specs.Fmt.{signed_decimal};
@@ -12,7 +12,7 @@ pub const MAX_NUMBER_TEXT: usize = 20;
 
 const _: () = prove!(MAX_NUMBER_TEXT == 20);
 
-/// Writes a byte before those from `end` on, and says where it stands.
+/// Writes a byte just before `end`, and returns where it stands.
 pub fn write_byte(text: &mut [u8], end: usize, byte: u8) -> usize
     requires room { 1 ≤ end }
     requires within { end ≤ length text.old }
@@ -24,7 +24,7 @@ pub fn write_byte(text: &mut [u8], end: usize, byte: u8) -> usize
     start
 }
 
-/// Writes a number in decimal before the bytes from `end` on, and says where it begins.
+/// Writes a number in decimal just before `end`, and returns where it begins.
 pub fn write_number(text: &mut [u8], end: usize, number: i64) -> usize
     requires { HasNumberRoom end text.old }
     ensures { WritesBefore end (signed_decimal number) text.old text.new result }

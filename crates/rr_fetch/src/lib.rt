@@ -1,21 +1,21 @@
-//! Fetches: what rows of a series are asked for, and the CSV that answers.
+//! Fetches: which rows of a series are asked for, and the CSV that answers.
 //!
 //! ```text
-//! bytes ── request_words ──> five words ── read_request ──> a request: key, function, archive, slots
+//! bytes ── request_words ──> words ── read_request ──> a request: key, function, archive, slots
 //! request ── answer_text ──> entries of each slot ── consolidate ──> a row ── push_row ──> CSV
 //! ```
 //!
-//! [`request_words`] cuts a text into words, which a script may keep until it has a schema, and
+//! [`request_words`] splits a text into words, which a script may keep until it has a schema, and
 //! [`read_request`] reads a [`Request`] from them and the schema, which chooses the archive;
-//! [`parse_request`] does both. [`consolidate`] makes a row of the entries of its slot, what each
-//! origin contributes to it. [`answer_text`] looks up the entries of each slot of a request in a
-//! replica, and writes a record of CSV for each row, whose first field, the key, it writes once
-//! (`plain`), and whose numbers it writes into a buffer (`digits`); [`answer`] writes that text to
-//! a stream. [`push_plain`] adds other records.
+//! [`parse_request`] does both. [`consolidate`] makes a row from the entries of its slot, which are
+//! what each origin contributes to it. [`answer_text`] looks up the entries of each slot of a
+//! request in a replica, and writes a CSV record for each row, whose first field, the key, it
+//! encodes once (`plain`), and whose numbers it writes into a buffer (`digits`); [`answer`] writes
+//! that text to a stream. [`push_plain`] adds other records.
 //!
-//! In `specs/` a request is a function of the bytes, or the first fault that they have
+//! In `specs/`, a request, or else the first fault, is a function of the bytes
 //! (`specs/Requests.antt`), a row one of the entries (`specs/Consolidation.antt`), the text of a
-//! record one of its fields in CSV's own words (`specs/Records.antt`), and an answer one of the
+//! record one of its fields, in CSV's own words (`specs/Records.antt`), and an answer one of the
 //! replica's cells (`specs/Answers.antt`). [`laws`] says that rows and answers are those of the
 //! samples that the cells were made from.
 #![tactic(auto)]

@@ -1,4 +1,4 @@
-//! Records of CSV, added to a text of one's own.
+//! CSV records, added to a caller's text.
 
 ghost use Rattle.std.specs.Prelude.{◌≡◌, ◌++◌, ◌∷◌, [], IfOk, OnOk};
 ghost use Rattle.std.specs.List.{list_any, flat_map};
@@ -11,8 +11,8 @@ use std::alloc::{AllocError, Global};
 
 const DOUBLE_QUOTE: u8 = b'"';
 
-/// Adds the record of a name and of two texts that CSV writes as they are, as numbers are. After an
-/// `Err` some of it may be there. The cost is linear in their bytes.
+/// Adds the record of a name and of two texts that CSV writes as they are, as it does numbers.
+/// After an `Err` some of it may have been added. The cost is linear in their bytes.
 pub fn push_plain(
     text: &mut Vec<u8>,
     name: &[u8],
@@ -32,8 +32,8 @@ pub fn push_plain(
     text.extend_from_slice(b"\n")
 }
 
-/// How each record with this first field begins: the field, in double quotes where CSV wants them,
-/// and a comma. The cost is linear in its bytes.
+/// The beginning of each record with this first field: the field, in double quotes if CSV requires
+/// them, and a comma. The cost is linear in its bytes.
 pub fn prefix_of(alloc: Global, first: &[u8]) -> Result<Vec<u8>, AllocError>
     ensures { IfOk result (λ prefix. prefix.items ≡ field_text first.now ++ comma ∷ []) }
 {
@@ -43,7 +43,7 @@ pub fn prefix_of(alloc: Global, first: &[u8]) -> Result<Vec<u8>, AllocError>
     Ok(prefix)
 }
 
-/// Adds a field, in double quotes where CSV wants them.
+/// Adds a field, in double quotes if CSV requires them.
 fn push_field(text: &mut Vec<u8>, field: &[u8]) -> Result<(), AllocError>
     ensures { OnOk result (text.new.items ≡ text.old.items ++ field_text field.now) }
 {

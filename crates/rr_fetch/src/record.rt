@@ -1,4 +1,4 @@
-//! A row as a record of CSV.
+//! A row as a CSV record.
 
 ghost use Rattle.std.specs.Prelude.{◌≡◌, ◌≤◌, ◌++◌, [], ◌∷◌, ℕ, List, OnOk, drop};
 ghost use Rattle.std.specs.Fmt.{signed_decimal};
@@ -12,15 +12,14 @@ use std::alloc::AllocError;
 /// What is written for an unknown value.
 const UNKNOWN: u8 = b'U';
 
-/// The most bytes of a record behind its first field and the comma after it.
+/// The most bytes of a record after its first field and the comma.
 pub(crate) const MAX_REST: usize = 2 * MAX_NUMBER_TEXT + 2;
 
 const _: () = prove!(UNKNOWN == 85);
 
 const _: () = prove!(MAX_REST == 42);
 
-/// Writes a value, or `U` for an unknown one, before the bytes from `end` on, and says where it
-/// begins.
+/// Writes a value, or `U` if it is unknown, just before `end`, and returns where it begins.
 fn write_value(text: &mut [u8], end: usize, value: Option<i64>) -> usize
     requires { HasNumberRoom end text.old }
     ensures { WritesBefore end (value_text value) text.old text.new result }
@@ -31,8 +30,8 @@ fn write_value(text: &mut [u8], end: usize, value: Option<i64>) -> usize
     }
 }
 
-/// Writes what follows the first field of a row's record at the end of a buffer, and says where it
-/// begins.
+/// Writes what follows the first field of a row's record at the end of a buffer, and returns where
+/// it begins.
 fn write_rest(rest: &mut [u8; MAX_REST], start: i64, value: Option<i64>) -> usize
     ensures within { result ≤ MAX_REST }
     ensures written { drop result rest.new ≡ signed_decimal start ++ comma ∷ value_text value
@@ -44,9 +43,8 @@ fn write_rest(rest: &mut [u8; MAX_REST], start: i64, value: Option<i64>) -> usiz
     write_number(rest, end, start)
 }
 
-/// Adds the record of a row: its start second and its value, behind what each row of its key begins
-/// with. The rest of it is made in a buffer that is used again, so that none is cleared for each
-/// row.
+/// Adds the record of a row: its start second and its value, after the prefix that all rows of its
+/// key share. The rest is made in a buffer that is reused, so that none is cleared for each row.
 pub(crate) fn push_row(
     text: &mut Vec<u8>,
     rest: &mut [u8; MAX_REST],

@@ -92,18 +92,18 @@ fn rows_of(schema: &Schema, archive: u8, start: i64, end: i64) -> Result<(i64, u
     Ok((first, rows as u32))
 }
 
-/// The request of the words `CF RESOLUTION START END KEY`, with one space between two; spaces in
+/// The request of the words `CF RESOLUTION START END KEY`, separated by single spaces; spaces in
 /// the key are its own.
 ///
-/// The function is `AVERAGE`, `MIN`, `MAX` or `LAST`. The other three are seconds in decimal, a
-/// resolution from 1 to [`MAX_SECOND`], and a start and an end up to it either side of the epoch.
-/// The archive is the one that [`Schema::choose`] chooses, and the rows are those from the slot of
-/// the start up to the last one that begins before the end.
+/// The function is `AVERAGE`, `MIN`, `MAX` or `LAST`. The other three are seconds in decimal: a
+/// resolution from 1 to [`MAX_SECOND`], and a start and an end at most that far either side of the
+/// epoch. The archive is the one that [`Schema::choose`] chooses, and the rows are those from the
+/// slot of the start up to the last one that begins before the end.
 ///
 /// Refusals, in this order: `BadCommand`, for fewer than five words; `BadCf`; `BadNumber`, for each
 /// of the three numbers; `BadKey`; `EmptyRange`, for a start that is not before the end;
-/// `TooManyRows`, for more than [`MAX_FETCH_ROWS`]; and `Memory` only where none of these is due.
-/// The cost is linear in the bytes.
+/// `TooManyRows`, for more than [`MAX_FETCH_ROWS`]; and `Memory` only if none of these applies. The
+/// cost is linear in the bytes.
 #[tactic(auto, unfolding(crate::specs::Requests::request_of_words))]
 pub fn parse_request(alloc: Global, bytes: &[u8], schema: &Schema) -> Result<Request, RequestFault>
     ensures { MakesRequest schema.now result (request_of_words schema.now bytes.now) }
@@ -112,7 +112,7 @@ pub fn parse_request(alloc: Global, bytes: &[u8], schema: &Schema) -> Result<Req
     read_request(alloc, &words, schema)
 }
 
-/// The request of words that are cut already; the refusals are those of [`parse_request`] after
+/// The request of words that are already split; the refusals are those of [`parse_request`] after
 /// `BadCommand`.
 #[tactic(auto, unfolding(crate::specs::Requests::read))]
 pub fn read_request(

@@ -1,4 +1,4 @@
-//! The rows of an archive, one after the other.
+//! The rows of an archive, one after another.
 ghost use Rattle.std.specs.Prelude.{◌≡◌, ◌+◌, ◌≤◌, ◌≤ℤ◌, pos, map, drop, slice_range, length, vec_len, [], IfOk, OnErr, OnOk};
 ghost use Rattle.std.specs.List.{prefix_len};
 ghost use Rattle.std.specs.Ordering.{int_eq};
@@ -9,20 +9,20 @@ ghost use Rattle.rr_fetch.specs.LentRows.{lent_cells};
 use rr_archive::{Cells, Entry};
 use std::alloc::{AllocError, Global};
 
-/// The rows of an archive. The cells of a run of slots are read at once, so rows cost least in the
-/// order of their slots. Without an archive none has an entry.
+/// The rows of an archive. The cells of a run of slots are read at once, so rows cost least in slot
+/// order. Without an archive, no row has an entry.
 #[derive(Drop)]
 pub(crate) struct Rows<'a, A: Cells> {
     archive: Option<&'a A>,
-    /// The cells of the run that was read last.
+    /// The cells of the run read last.
     run: Vec<(i64, Entry)>,
-    /// Where in it the row is that was read last.
+    /// Where the row read last begins in it.
     from: usize,
-    /// Where it ends: what follows is of the slots from `next` on.
+    /// Where that row ends: what follows is of the slots from `next` on.
     at: usize,
-    /// The slot after the one that was asked for last.
+    /// The slot after the one asked for last.
     next: i64,
-    /// How many slots of the run there are from `next` on.
+    /// How many slots of the run remain, from `next` on.
     left: u32,
     ghost ends: { from ≤ at },
     ghost within: { at ≤ vec_len run },
@@ -30,7 +30,7 @@ pub(crate) struct Rows<'a, A: Cells> {
         ≡ cells_on (lent_cells (λ a. A.cells a.now) archive) next left },
 }
 
-/// How many cells, from the first on, are of a slot.
+/// How many leading cells are of a slot.
 fn leading(cells: &[(i64, Entry)], slot: i64) -> usize
     ensures count { result ≡ prefix_len (λ c. int_eq c.0 slot) cells.now }
     ensures at_most { result ≤ length cells.now }
@@ -42,8 +42,8 @@ fn leading(cells: &[(i64, Entry)], slot: i64) -> usize
     count
 }
 
-/// Writes the cells of a run of slots of an archive from one on over what a list has, and answers
-/// how many slots the run is of. After an error the list is empty.
+/// Replaces the contents of a list with the cells of an archive's run from a slot on, and returns
+/// how many slots the run has. After an error the list is empty.
 fn run_into<A: Cells>(
     archive: Option<&A>,
     slot: i64,
@@ -80,7 +80,7 @@ impl<'a, A: Cells> Rows<'a, A> {
         }
     }
 
-    /// Reads the run of slots from one on, unless the run that was read last goes on with it.
+    /// Reads the run from a slot on, unless that slot is the next of the run read last.
     fn seek(&mut self, slot: i64) -> Result<(), AllocError>
         ensures archive { self.new.archive ≡ self.old.archive }
         ensures next { OnOk result (self.new.next ≡ slot) }
@@ -127,7 +127,7 @@ impl<'a, A: Cells> Rows<'a, A> {
         Ok(())
     }
 
-    /// The cells of the row that was read last.
+    /// The cells of the row read last.
     pub(crate) fn cells(&self) -> &[(i64, Entry)]
         ensures { result.now ≡ slice_range self.now.run.items self.now.from self.now.at }
     {

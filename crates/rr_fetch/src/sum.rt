@@ -1,4 +1,4 @@
-//! The samples of a row, summed up.
+//! The sum of the samples of a row.
 
 ghost use Rattle.std.specs.Prelude.{◌≡◌, ◌+◌, ◌*◌, ◌≤◌, ◌+ℤ◌, All, length};
 ghost use Rattle.rr_cells.specs.Rows.{average};
@@ -13,7 +13,7 @@ pub(crate) const MAX_ENTRIES: usize = 65_536;
 
 const _: () = prove!(MAX_ENTRIES == 65_536);
 
-/// Samples, by their number and the sum of their values.
+/// Samples, as their count and the sum of their values.
 #[derive(Clone, Copy, Debug)]
 pub(crate) struct Sum {
     count: u64,

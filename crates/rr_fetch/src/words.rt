@@ -12,8 +12,8 @@ use rr_text::limits::MAX_SECOND;
 use rr_text::text::{cut, integer, number};
 use std::alloc::Global;
 
-/// The words of a request, `CF RESOLUTION START END KEY`, cut apart and not yet read. The key is
-/// all that follows the fourth space, so that its spaces are its own.
+/// The words of a request, `CF RESOLUTION START END KEY`, split and not yet read. The key is all
+/// that follows the fourth space, so its spaces are its own.
 #[derive(Clone, Copy)]
 pub struct RequestWords<'a> {
     pub(crate) function: &'a [u8],
@@ -24,7 +24,7 @@ pub struct RequestWords<'a> {
 }
 
 impl<'a> RequestWords<'a> {
-    /// The words of a request that stand apart already.
+    /// The words of a request that are already split.
     pub fn new(
         function: &'a [u8],
         resolution: &'a [u8],
@@ -50,7 +50,7 @@ impl<'a> RequestWords<'a> {
     }
 }
 
-/// Cuts a request into its words; `None` where there are fewer than five.
+/// Splits a request into its words; `None` if there are fewer than five.
 #[tactic(auto, unfolding(crate::specs::Words::words_of))]
 pub fn request_words(bytes: &[u8]) -> Option<RequestWords<'_>>
     ensures { option_map parts result ≡ words_of bytes.now }
@@ -68,7 +68,7 @@ pub fn request_words(bytes: &[u8]) -> Option<RequestWords<'_>>
     })
 }
 
-/// A consolidation function, by its name in RRDtool.
+/// The consolidation function with this name in RRDtool.
 pub(crate) fn function_of(word: &[u8]) -> Option<ConsolidationFunction>
     ensures { result ≡ function_of word.now }
 {
@@ -106,7 +106,7 @@ pub(crate) fn second_of(word: &[u8]) -> Option<i64>
     }
 }
 
-/// The series key of a text, or `BadKey`; `None` where memory ran out.
+/// The series key of a text, or `BadKey`; `None` if memory ran out.
 pub(crate) fn key_of(alloc: Global, text: &[u8]) -> Result<Option<SeriesKey>, RequestFault>
     ensures value { MatchResult result (λ _. key_of text.now ≡ Ok text.now)
         (λ fault. key_of text.now ≡ Err fault) }

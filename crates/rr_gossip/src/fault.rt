@@ -16,7 +16,7 @@ pub enum GossipFault {
     Ended,
     /// A frame is longer than 300,000 bytes.
     FrameTooLong,
-    /// A frame is of no kind, or its body is not one of its kind.
+    /// A frame is of no kind, or its body isn't valid for its kind.
     BadFrame,
     /// A frame is of a kind that is not due.
     UnexpectedFrame,
@@ -28,7 +28,7 @@ pub enum GossipFault {
     WriteFailed,
     /// Memory ran out.
     Memory,
-    /// The session failed before.
+    /// The session has already failed.
     Failed,
 }
 

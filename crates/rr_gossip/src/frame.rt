@@ -17,7 +17,7 @@ pub const MAX_FRAMES: u32 = 16_777_216;
 
 const _: () = prove!(MAX_FRAMES == 16_777_216);
 
-/// What a frame is.
+/// The kind of a frame.
 #[derive(Clone, Copy, Debug, PartialEq, Eq)]
 pub enum Kind {
     /// The schema of the side that pulls.
@@ -33,7 +33,7 @@ pub enum Kind {
 }
 
 impl Kind {
-    /// The byte that a frame has for it.
+    /// Its byte in a frame.
     pub fn byte(self) -> u8
         ensures { result ≡ kind_byte self }
     {
@@ -77,7 +77,7 @@ pub fn frame_bytes(alloc: Global, kind: Kind, body: &[u8]) -> Result<Vec<u8>, Al
 }
 
 /// The kind and the body of a frame, from what follows its length. Refused as `FrameTooLong` above
-/// 300,000 bytes, and then as `BadFrame` where there is no byte, or the first is of no kind.
+/// 300,000 bytes, and then as `BadFrame` if there is no byte, or the first is of no kind.
 #[tactic(auto, unfolding(crate::specs::Frame::content_at))]
 pub fn content_of(content: &[u8]) -> Result<(Kind, &[u8]), GossipFault>
     ensures read { Gives (λ x. (x.0, x.1.now)) result (content_at content.now) }

@@ -16,7 +16,7 @@ use rr_schema::Schema;
 use std::alloc::Global;
 use std::mem::replace;
 
-/// Where a session is.
+/// How far a session has come.
 #[derive(Drop)]
 pub(crate) enum Stage {
     /// Before the Hello.
@@ -65,7 +65,7 @@ impl Stage {
         }
     }
 
-    /// Has the difference made against all names, after the last of them.
+    /// Has the source make the difference against all names, after the last of them.
     #[tactic(auto, unfolding(crate::specs::Giver::end_taken))]
     fn take_end<S: Source>(
         &mut self,
@@ -91,8 +91,8 @@ impl Stage {
         Ok(())
     }
 
-    /// Takes the body of a frame of a kind that is due, and answers whether it was the last. The
-    /// body of a Hello has to be the bytes of the schema.
+    /// Takes the body of a frame of a kind that is due, and returns whether it was the last. The
+    /// body of a Hello must be the bytes of the schema.
     #[tactic(auto, unfolding(crate::specs::Giver::hello_taken))]
     fn take_body<S: Source>(
         &mut self,
@@ -158,9 +158,9 @@ impl Stage {
 
 /// The side of a session that gives cells.
 ///
-/// It takes the frames of the other side one after the other, and has the difference made at the
-/// last of them; then it answers one page after the other, all of the state that the source had
-/// then. After a fault it answers `Failed` from then on.
+/// It takes the frames of the other side one after another, and at the last of them has the source
+/// make the difference; then it returns one page after another, all of the state that the source
+/// had then. After a fault, all calls are refused as `Failed`.
 #[derive(Drop)]
 pub struct Giver {
     stage: Stage,
@@ -189,14 +189,14 @@ impl Giver {
         }
     }
 
-    /// Takes what follows the length of a frame, and answers whether it was the other side's last.
+    /// Takes what follows the length of a frame, and returns whether it was the other side's last.
     ///
     /// Refused, in this order, as `Failed` after a fault; as `FrameTooLong` above 300,000 bytes; as
-    /// `BadFrame` where it is of no kind; as `UnexpectedFrame` where that kind is not due; as
+    /// `BadFrame` if it is of no kind; as `UnexpectedFrame` if that kind isn't due; as
     /// `TooManyFrames`; and by its body, as `SchemaDiffers` for a Hello of another schema and as
     /// `BadFrame` for any other. `Memory` hides none of these but a fault of a Summary frame's
-    /// body. After a refusal the session has failed, after `Memory` too. The cost is linear in the
-    /// frame, and at the last one that of `Source::difference`.
+    /// body. After a refusal, `Memory` included, the session has failed. The cost is linear in the
+    /// frame, plus that of `Source::difference` at the last one.
     #[tactic(auto, unfolding(crate::specs::Giver::giver_takes, crate::specs::Giver::frame_due))]
     pub fn take<S: Source>(
         &mut self,

@@ -14,8 +14,8 @@ use rr_io::stream::{flush, write_all};
 use std::alloc::Global;
 use std::io::{Read, Write};
 
-/// Takes the frames of the other side to its last one, after the bytes of the first frame's length
-/// that are read already. One frame is in memory at a time.
+/// Takes the frames of the other side up to its last one. `before` is what has already been read of
+/// the first frame's length. One frame is in memory at a time.
 fn take_names<S: Source, R: Read>(
     alloc: Global,
     giver: &mut Giver,
@@ -37,8 +37,8 @@ fn take_names<S: Source, R: Read>(
     }
 }
 
-/// Writes the frames that a giver still sends, each before the next is made, and has the writer
-/// pass them on.
+/// Writes the frames that a giver still has to send, each before the next is made, and flushes the
+/// writer.
 fn send_pages<S: Source, W: Write>(
     alloc: Global,
     giver: &mut Giver,
@@ -60,18 +60,18 @@ fn send_pages<S: Source, W: Write>(
 }
 
 /// Answers a pull by the other side of a stream: takes its schema and the names and versions of its
-/// cells, and sends the cells of a source that these lack, 256 in a page.
+/// cells, and sends the cells of a source that these lack, 256 to a page.
 ///
-/// All of the answer is of one state of the source, that of the last frame, and is in memory as one
+/// The whole answer is of one state of the source, that at the last frame, and is in memory as one
 /// list; each page is written before the next is made. No byte after the end of the names is read.
 ///
-/// Refused as `ReadFailed`; as `Ended` where the input ends before the end of the names; by a frame
-/// as [`Giver::take`] refuses it, and as `FrameTooLong` on its length alone, before more is read;
-/// as `TooManyFrames` where a frame would be one above 16,777,216, either way; as `WriteFailed`;
-/// and as `Memory`. Nothing is written before the end of the names is taken, and a prefix of the
-/// answer wherever the call ends.
+/// Refused as `ReadFailed`; as `Ended` if the input ends before the end of the names; by a frame as
+/// [`Giver::take`] refuses it, and as `FrameTooLong` on its length alone, before more is read; as
+/// `TooManyFrames` if a frame would exceed 16,777,216, either way; as `WriteFailed`; and as
+/// `Memory`. Nothing is written before the end of the names is taken, and wherever the call ends, a
+/// prefix of the answer is written.
 ///
-/// The cost is that of `Source::difference`, and linear in the bytes.
+/// The cost is that of `Source::difference`, plus one linear in the bytes.
 pub fn give<S: Source, R: Read, W: Write>(
     alloc: Global,
     input: &mut Counted<R>,
@@ -84,7 +84,7 @@ pub fn give<S: Source, R: Read, W: Write>(
     give_within(alloc, &[], input, output, source, MAX_FRAMES)
 }
 
-/// Gives as [`give`] does, at its cost, where the first byte of the session is read already.
+/// Gives as [`give`] does, at its cost, when the first byte of the session has already been read.
 pub fn give_after<S: Source, R: Read, W: Write>(
     alloc: Global,
     first: u8,
@@ -98,8 +98,8 @@ pub fn give_after<S: Source, R: Read, W: Write>(
     give_within(alloc, &[first], input, output, source, MAX_FRAMES)
 }
 
-/// Gives as [`give`] does, at its cost, in a session of at most `frames` frames each way. The bytes
-/// before the input, at most the four of the first frame's length, are read already.
+/// Gives as [`give`] does, at its cost, in a session of at most `frames` frames each way. `before`
+/// is what has already been read, at most the four bytes of the first frame's length.
 pub fn give_within<S: Source, R: Read, W: Write>(
     alloc: Global,
     before: &[u8],

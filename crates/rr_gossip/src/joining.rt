@@ -1,4 +1,4 @@
-//! The cells of a page, joined into a target.
+//! Joining the cells of a page into a target.
 ghost use Rattle.std.specs.Prelude.{ℕ, All, OnOk, OnErr, map, take};
 ghost use Rattle.rr_cells.specs.CellBounds.{IsCellOf};
 ghost use Rattle.rr_cells.specs.Listing.{owned_cell};
@@ -12,7 +12,7 @@ use rr_delta::Target;
 use rr_page::decode;
 use std::alloc::{AllocError, Global};
 
-/// Joins cells, in order. Where memory runs out, some of them from the first on are joined.
+/// Joins cells, in order. If memory runs out, a prefix of them is joined.
 fn join_all<T: Target>(cells: &[Cell], target: &mut T) -> Result<(), AllocError>
     requires { All (λ c. IsCellOf (T.layout target.old) (owned_cell c)) cells.now }
     ensures joined { OnOk result (T.has_joined target.old target.new (map owned_cell cells.now)) }
@@ -25,7 +25,7 @@ fn join_all<T: Target>(cells: &[Cell], target: &mut T) -> Result<(), AllocError>
     Ok(())
 }
 
-/// Joins the cells of a page into a target, after the last of which another frame comes.
+/// Joins the cells of a page into a target, and returns false: a page isn't the last frame.
 #[tactic(auto, unfolding(crate::specs::Puller::page_taken))]
 pub(crate) fn take_page<T: Target>(
     alloc: Global,

@@ -1,12 +1,11 @@
 //! Sessions in which one side pulls cells from another.
 //!
-//! A frame (`specs/Frame.antt`) is a length, a [`Kind`] and a body. The side that pulls sends the
-//! schema that it has, the names and versions of its cells in Summary frames
-//! (`specs/Summary.antt`), and an end; the side that gives answers with pages of the cells that
-//! these lack, and an end.
+//! A frame (`specs/Frame.antt`) is a length, a [`Kind`] and a body. The side that pulls sends its
+//! schema, the names and versions of its cells in Summary frames (`specs/Summary.antt`), and an
+//! end; the giving side replies with pages of the cells that these lack, and an end.
 //!
-//! Each side is a machine without a stream: [`Puller`] stands over a target (`specs/Puller.antt`),
-//! [`Giver`] over a source (`specs/Giver.antt`). `next_frame` answers the next frame that it sends,
+//! Each side is a machine without a stream: [`Puller`] over a target (`specs/Puller.antt`),
+//! [`Giver`] over a source (`specs/Giver.antt`). `next_frame` returns the next frame to send,
 //! `take` is handed each frame of the other side, and both are held to one function of the machine,
 //! the frame and the cells. Bytes that are no frame of the session are refused by name
 //! ([`GossipFault`]).
@@ -15,8 +14,8 @@
 //! read by their length alone (`specs/Stream.antt`), and each call is held to the frames that it
 //! read and wrote (`specs/Session.antt`). [`laws`] says which frames a side sends in a row
 //! (`specs/Transcript.antt`), that a pull that completes joins exactly what its target lacked, in
-//! order, and one that stops the first of that, and that this brings the join of the cells of both
-//! sides.
+//! order, that one that stops joins a prefix of that, and that this brings the join of the cells of
+//! both sides.
 #![tactic(auto)]
 
 mod fault;

@@ -1,4 +1,4 @@
-//! The names that were taken from Summary frames.
+//! The names taken from Summary frames.
 ghost use Rattle.std.specs.Prelude.{◌≡◌, [], map};
 ghost use Rattle.rr_text.specs.Results.{GivesUnless};
 ghost use Rattle.rr_delta.specs.Difference.{IsSummary};
@@ -12,7 +12,7 @@ use rr_schema::Schema;
 use std::alloc::Global;
 use std::marker::Model;
 
-/// Names of cells with their versions, which strictly ascend.
+/// Names of cells with their versions, strictly ascending.
 #[derive(Drop)]
 pub(crate) struct Names {
     names: Vec<Name>,

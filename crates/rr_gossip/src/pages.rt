@@ -1,4 +1,4 @@
-//! The pages of a difference, one after the other.
+//! The pages of a difference, one after another.
 ghost use Rattle.std.specs.Prelude.{◌≡◌, ◌<◌, All, IsTrue, IfOk, IfSome, OnOk, map, length};
 ghost use Rattle.std.specs.FinMap.{is_sorted};
 ghost use Rattle.std.specs.Option.{option_map};
@@ -16,7 +16,7 @@ use rr_text::limits::MAX_PAGE_CELLS;
 use std::alloc::{AllocError, Global};
 use std::marker::Model;
 
-/// Cells of a schema, ascending by their names, of which some were sent.
+/// Cells of a schema, ascending by name, some of which have been sent.
 #[derive(Drop)]
 pub(crate) struct Pages {
     schema: Schema,

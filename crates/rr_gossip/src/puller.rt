@@ -17,7 +17,7 @@ use rr_delta::{Name, Target};
 use std::alloc::{AllocError, Global};
 use std::mem::replace;
 
-/// Where a session is.
+/// How far a session has come.
 #[derive(Drop)]
 pub(crate) enum Stage {
     /// Before the Hello.
@@ -32,7 +32,7 @@ pub(crate) enum Stage {
     Failed,
 }
 
-/// The frame of these names, or the end where there is none; and the stage after it.
+/// The frame of these names, or the end if there are none; and the stage after it.
 fn listed(alloc: Global, names: Vec<Name>) -> Result<(Stage, Vec<u8>), AllocError>
     requires names_fit { length names.items ≤ MAX_ENTRIES }
     requires fits { length (summary_text (map owned_name names.items)) < MAX_FRAME_LEN }
@@ -96,7 +96,7 @@ impl Stage {
 }
 
 impl Stage {
-    /// Takes the body of a frame of a kind that is due, and answers whether it was the last.
+    /// Takes the body of a frame of a kind that is due, and returns whether it was the last.
     #[tactic(auto, unfolding(crate::specs::Puller::end_taken))]
     fn take_body<T: Target>(
         &mut self,
@@ -131,8 +131,8 @@ impl Stage {
 
 /// The side of a session that pulls cells.
 ///
-/// It sends the schema of its target and the names of all its cells, and then joins the pages that
-/// it takes, each as it comes. After a fault it answers `Failed` from then on.
+/// It sends the schema of its target and the names of all its cells, and then joins each page that
+/// it takes as it comes. After a fault, all calls are refused as `Failed`.
 #[derive(Drop)]
 pub struct Puller {
     stage: Stage,
@@ -161,12 +161,12 @@ impl Puller {
         }
     }
 
-    /// The next frame, whole, if one is due: none after the end of the names. Names are asked of
-    /// the target 256 at a time, from the last one on.
+    /// The next frame, whole, if one is due: none after the end of the names. The target is asked
+    /// for 256 names at a time, from the last one on.
     ///
     /// Refused as `Failed` after a fault; as `TooManyFrames`, before any name is asked for; and as
     /// `Memory`. After a refusal the session has failed. The cost is that of `Target::names_after`,
-    /// and linear in the frame.
+    /// plus one linear in the frame.
     #[tactic(auto, unfolding(crate::specs::Puller::puller_sends))]
     pub fn next_frame<T: Target>(
         &mut self,
@@ -193,15 +193,15 @@ impl Puller {
     }
 
     /// Takes what follows the length of a frame, joins the cells of a page, one by one and in
-    /// order, and answers whether it was the other side's last.
+    /// order, and returns whether the frame was the other side's last.
     ///
     /// Refused, in this order, as `Failed` after a fault; as `FrameTooLong` above 300,000 bytes; as
-    /// `BadFrame` where it is of no kind; as `UnexpectedFrame` where that kind is not due, which is
-    /// so until the end of the names is sent; as `TooManyFrames`; and by its body, as
-    /// `SchemaDiffers` for a page of another schema and as `BadFrame` for any other. Then nothing
-    /// is joined. `Memory` comes only where the frame is a good one; some cells of the page may
-    /// then be joined, from the first on. After a refusal the session has failed. The cost is
-    /// linear in the frame, and that of `Target::join_cell` for each cell.
+    /// `BadFrame` if it is of no kind; as `UnexpectedFrame` if that kind isn't due, as none is
+    /// until the end of the names is sent; as `TooManyFrames`; and by its body, as `SchemaDiffers`
+    /// for a page of another schema and as `BadFrame` for any other. Then nothing is joined.
+    /// `Memory` comes only for a good frame; a prefix of the page's cells may then be joined. After
+    /// a refusal the session has failed. The cost is linear in the frame, plus that of
+    /// `Target::join_cell` for each cell.
     #[tactic(auto, unfolding(crate::specs::Puller::puller_takes))]
     pub fn take<T: Target>(
         &mut self,

@@ -18,7 +18,7 @@ use rr_io::stream::{flush, write_all};
 use std::alloc::Global;
 use std::io::{Read, Write};
 
-/// Writes the frames of a puller, each before the next is made, and has the writer pass them on.
+/// Writes the frames of a puller, each before the next is made, and flushes the writer.
 fn send_names<T: Target, W: Write>(
     alloc: Global,
     puller: &mut Puller,
@@ -41,8 +41,8 @@ fn send_names<T: Target, W: Write>(
     Ok(())
 }
 
-/// Takes the frames of the other side to its last one, and joins each page as it comes. One frame
-/// is in memory at a time.
+/// Takes the frames of the other side up to its last one, and joins each page as it comes. One
+/// frame is in memory at a time.
 fn take_pages<T: Target, R: Read>(
     alloc: Global,
     puller: &mut Puller,
@@ -70,20 +70,18 @@ fn take_pages<T: Target, R: Read>(
 }
 
 /// Pulls cells from the other side of a stream: sends the schema of a target and the names and
-/// versions of all its cells, and joins the cells that the other side answers, page by page, each
-/// in its order.
+/// versions of all its cells, and joins the cells of the reply, page by page, each page in order.
 ///
-/// Names are asked of the target 256 at a time, and each frame is written before the next is made;
-/// of the answer one frame is in memory at a time. No byte after the end of the pages is read.
+/// The target is asked for 256 names at a time, and each frame is written before the next is made;
+/// of the reply, one frame is in memory at a time. No byte after the end of the pages is read.
 ///
-/// Refused as `WriteFailed`; as `ReadFailed`; as `Ended` where the input ends before the end of the
+/// Refused as `WriteFailed`; as `ReadFailed`; as `Ended` if the input ends before the end of the
 /// pages; by a frame as [`Puller::take`] refuses it, and as `FrameTooLong` on its length alone,
-/// before more is read; as `TooManyFrames` where a frame would be one above 16,777,216, either way;
-/// and as `Memory`. The pages before the refused frame are then joined, and where memory ran out
-/// perhaps some cells of its page, from the first on. A prefix of the frames is written wherever
-/// the call ends.
+/// before more is read; as `TooManyFrames` if a frame would exceed 16,777,216, either way; and as
+/// `Memory`. The pages before the refused frame are then joined, and if memory ran out, perhaps a
+/// prefix of the cells of its page. A prefix of the frames is written wherever the call ends.
 ///
-/// The cost is that of `Target::names_after` and `Target::join_cell`, and linear in the bytes.
+/// The cost is that of `Target::names_after` and `Target::join_cell`, plus one linear in the bytes.
 pub fn pull<T: Target, R: Read, W: Write>(
     alloc: Global,
     input: &mut Counted<R>,

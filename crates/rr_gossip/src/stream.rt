@@ -16,8 +16,8 @@ use std::io::Read;
 /// How many bytes the length of a frame has.
 const LENGTH_LEN: usize = 4;
 
-/// Reads until there are `len` bytes. Memory is taken for those that have come, and not for those
-/// that are to come.
+/// Reads until there are `len` bytes. Memory is taken for those that have arrived, not for those
+/// still to come.
 fn read_until<R: Read>(
     input: &mut Counted<R>,
     bytes: &mut Vec<u8>,
@@ -56,12 +56,12 @@ fn content_len(frame: &[u8]) -> usize
     }
 }
 
-/// Reads the next frame whole, by its length alone, after the bytes of the length that are there:
-/// no byte after it is taken.
+/// Reads the next frame whole, by its length alone; `frame` has what was already read of the
+/// length. No byte after it is taken.
 ///
-/// Refused as `ReadFailed`; as `Ended` where the input ends inside the frame; as `FrameTooLong`
-/// where the length is above 300,000, and then nothing after it is read; and as `Memory`. Memory is
-/// taken for the bytes that have come.
+/// Refused as `ReadFailed`; as `Ended` if the input ends inside the frame; as `FrameTooLong` if the
+/// length is above 300,000, and then nothing after it is read; and as `Memory`. Memory is taken for
+/// the bytes that have arrived.
 pub(crate) fn read_frame<R: Read>(
     input: &mut Counted<R>,
     frame: &mut Vec<u8>,

@@ -99,7 +99,7 @@ fn is_next(names: &[Name], name: &Name) -> bool
     }
 }
 
-/// Adds `count` names, and answers what follows them.
+/// Adds `count` names, and returns what follows them.
 fn push_entries<'a>(
     alloc: Global,
     names: &mut Vec<Name>,
@@ -123,11 +123,11 @@ fn push_entries<'a>(
     Ok(rest)
 }
 
-/// Adds the names of the body of a Summary frame, from 1 to 256, to those of the frames before it.
-/// The names of all of them strictly ascend.
+/// Adds the 1 to 256 names of the body of a Summary frame to those of the frames before it. All of
+/// them strictly ascend.
 ///
-/// Refused where the bytes are no such body; some of its names may then have been added. `Memory`
-/// comes where memory ran out. The cost is linear in the bytes.
+/// Refused if the bytes are no such body; some of its names may then have been added. `Memory` is
+/// returned if memory runs out. The cost is linear in the bytes.
 #[tactic(auto, unfolding(crate::specs::SummaryReading::summary_at))]
 pub fn read_summary(
     alloc: Global,

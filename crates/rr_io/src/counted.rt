@@ -8,13 +8,13 @@ ghost use Rattle.rr_io.specs.Stream.{ReadsInto, WritesFrom};
 use std::io;
 use std::io::{Read, Write};
 
-/// A reader or a writer, with the number of its calls that failed, the number of its reads and of
-/// those that told the end, and whether it has passed on what was written.
+/// A reader or a writer, with the number of its calls that failed, the numbers of its reads and of
+/// those that reported the end, and whether what was written has been flushed.
 ///
-/// Code that answers that a stream failed can be held to it: the number of failures has then risen,
-/// or is at its greatest value. Code that reads within a limit can be held to that too, and to what
-/// it was told; and code that answers a writer, to have it pass on the answer. The bytes are those
-/// of the stream inside.
+/// Code that reports that a stream failed can be held to it: the number of failures has then risen,
+/// or is at its greatest value. Code that reads within a limit can also be held to that, and to
+/// what it was told; and code that answers a writer, to having flushed the answer. The bytes are
+/// those of the stream inside.
 #[derive(Drop)]
 pub struct Counted<S> {
     inner: S,
@@ -43,29 +43,29 @@ impl<S> Counted<S> {
     }
 
     /// How many calls failed: errors, and writes that took no byte of a piece that isn't empty. The
-    /// number stops at its greatest value.
+    /// count saturates.
     pub fn failures(&self) -> u64
         ensures { result ≡ failures_of self.now }
     {
         self.failures
     }
 
-    /// How many times it was read, failed reads among them. The number stops at its greatest value.
+    /// How many times it was read, failed reads included. The count saturates.
     pub fn reads(&self) -> u64
         ensures { result ≡ reads_of self.now }
     {
         self.reads
     }
 
-    /// How many of its reads told the end: they gave no byte, though there was room. The number
-    /// stops at its greatest value.
+    /// How many of its reads reported the end: they gave no byte, though there was room. The count
+    /// saturates.
     pub fn ends(&self) -> u64
         ensures { result ≡ ends_of self.now }
     {
         self.ends
     }
 
-    /// Whether nothing was written since it was last made to pass on what it holds back, and did.
+    /// Whether nothing was written since the last flush that succeeded.
     pub fn is_flushed(&self) -> bool
         ensures { result ≡ is_flushed self.now }
     {
@@ -90,7 +90,8 @@ impl<S> Counted<S> {
     }
 }
 
-/// Whether a read into a buffer of `room` bytes told the end: it gave none, though there was room.
+/// Whether a read into a buffer of `room` bytes reported the end: it gave none, though there was
+/// room.
 fn is_end_read(given: &io::Result<usize>, room: usize) -> bool
     ensures { result ≡ is_end_read given.now room }
 {
@@ -100,7 +101,8 @@ fn is_end_read(given: &io::Result<usize>, room: usize) -> bool
     }
 }
 
-/// Whether a write of a piece of `len` bytes failed: it says so, or took none of them.
+/// Whether a write of a piece of `len` bytes failed: it returned an error, or took none of
+/// them though there are some.
 fn is_failed_write(taken: &io::Result<usize>, len: usize) -> bool
     ensures { result ≡ is_failed_write taken.now len }
 {

@@ -1,4 +1,4 @@
-//! A stream of which one call fails.
+//! A stream with one call that fails.
 
 ghost use Rattle.std.specs.Prelude.{◌≡◌, Some};
 ghost use Rattle.std.specs.Io.KnownBytes.{Keeps};
@@ -8,11 +8,11 @@ ghost use Rattle.rr_io.specs.Stream.{ReadsInto, WritesFrom};
 use std::io;
 use std::io::{ErrorKind, Read, Write};
 
-/// A reader or a writer of which one call fails. The calls before it and those after it are passed
-/// on; the one that fails moves no byte.
+/// A reader or a writer with one call that fails. The calls before and after it are passed on; the
+/// one that fails moves no byte.
 ///
-/// It stands in for a stream in tests: a test that opens one again and again, and lets one more
-/// call pass each time, meets each failure once, and in the end none.
+/// It stands in for a stream in tests: a test that opens one again and again, letting one more call
+/// pass each time, meets each failure once, and in the end none.
 #[derive(Drop)]
 pub struct Failing<S> {
     inner: S,
@@ -20,7 +20,7 @@ pub struct Failing<S> {
 }
 
 impl<S> Failing<S> {
-    /// This stream, of which `calls` calls are passed on before one fails.
+    /// This stream, which passes on `calls` calls before one fails.
     pub fn new(stream: S, calls: u64) -> Failing<S>
         ensures inner { stream_in result ≡ stream }
         ensures calls { calls_left result ≡ Some calls }
@@ -38,7 +38,7 @@ impl<S> Failing<S> {
         self.inner
     }
 
-    /// Counts a call, and answers whether it is the one that fails.
+    /// Counts a call, and returns whether it is the one that fails.
     fn is_due(&mut self) -> bool
         ensures inner { stream_in self.new ≡ stream_in self.old }
         ensures calls { calls_left self.new ≡ one_call_less (calls_left self.old) }

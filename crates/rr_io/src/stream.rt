@@ -1,12 +1,12 @@
 //! Reads and writes of counted streams.
 //!
-//! A call that a signal interrupted is made again, so that a signal ends no connection, but at most
-//! [`MAX_INTERRUPTS`] times in a row, or, where the reads of an input are limited, within that
-//! limit. A stream that is never done then ends with its fault. Each of these calls counts as
-//! failed, and each read counts as a read.
+//! A call interrupted by a signal is made again, so that a signal ends no connection, but no more
+//! than [`MAX_INTERRUPTS`] calls in a row or, if the reads of an input are limited, that many.
+//! A stream whose calls are interrupted every time then ends with its fault. Each interrupted call
+//! counts as failed, and each read counts as a read.
 //!
-//! Whoever reads an input to its end in pieces of its own calls [`read_once`] in a loop of at most
-//! as many turns as the input may take reads, as [`read_to_end_within`] does.
+//! Whoever reads an input to its end in pieces of its own calls [`read_once`] in a loop, at most as
+//! many times as the input may take reads, as [`read_to_end_within`] does.
 
 ghost use Rattle.std.specs.Prelude.{◌≡◌, ◌<◌, ◌≤◌, Ok, None, length, take, IfOk, if◌then◌else◌};
 ghost use Rattle.std.specs.Io.KnownBytes.{Consumes};
@@ -22,10 +22,10 @@ use std::fmt;
 use std::io::{ErrorKind, Read, Write};
 use thiserror::Error;
 
-/// How many times in a row a call is made that signals interrupt.
+/// How many times in a row a call that signals interrupt is made.
 pub const MAX_INTERRUPTS: u32 = 16;
 
-/// How many bytes one read asks for where an input is read to a length or to its end.
+/// How many bytes one read asks for when an input is read to a length or to its end.
 pub const PIECE: usize = 4_096;
 
 /// A reader failed.
@@ -38,9 +38,9 @@ pub struct ReadFailed;
 #[error("the output could not be written")]
 pub struct WriteFailed;
 
-/// Makes one read into the beginning of `buf`, and answers how many bytes it gave: none only at the
-/// end of the input, or where `buf` is empty. `None` is a read that a signal interrupted, and that
-/// is to be made again. Such a read, and one that failed, took no byte of the input.
+/// Makes one read into the beginning of `buf`, and returns how many bytes it gave: none only at the
+/// end of the input, or if `buf` is empty. `None` is a read that a signal interrupted, which should
+/// be made again. Such a read, or one that failed, took no byte of the input.
 pub fn read_once<R: Read>(
     input: &mut Counted<R>,
     buf: &mut [u8],
@@ -64,8 +64,8 @@ pub fn read_once<R: Read>(
     }
 }
 
-/// Reads some bytes into the beginning of `buf`, and answers how many: none only at the end of the
-/// input, or where `buf` is empty. A read that failed took no byte of the input.
+/// Reads some bytes into the beginning of `buf`, and returns how many: none only at the end of the
+/// input, or if `buf` is empty. A read that failed took no byte of the input.
 pub fn read_some<R: Read>(input: &mut Counted<R>, buf: &mut [u8]) -> Result<usize, ReadFailed>
     ensures read { ReadsInto (R.remaining (inner_of input.old))
         (R.remaining (inner_of input.new)) result buf.new }
@@ -79,9 +79,9 @@ pub fn read_some<R: Read>(input: &mut Counted<R>, buf: &mut [u8]) -> Result<usiz
     Err(ReadFailed)
 }
 
-/// Reads until `buf` is full or the input ends, and answers how many bytes it put into the
-/// beginning of `buf`. After a failure some bytes may have been taken from the input, and no more
-/// than it holds.
+/// Reads until `buf` is full or the input ends, and returns how many bytes it put at the beginning
+/// of `buf`. After a failure some bytes may have been taken from the input, but no more than `buf`
+/// holds.
 pub fn fill<R: Read>(input: &mut Counted<R>, buf: &mut [u8]) -> Result<usize, ReadFailed>
     ensures bound { IfOk result (λ filled. filled ≤ length buf.new) }
     ensures bytes { IfOk result (λ filled. Consumes (R.remaining (inner_of input.old))
@@ -161,8 +161,8 @@ impl From<AllocError> for ReadFault {
     }
 }
 
-/// Adds all that the input still has to `bytes`, as [`read_to_end_within`] the most reads that an
-/// input may take, [`MAX_READS`].
+/// Adds the rest of the input to `bytes`, as [`read_to_end_within`] does within the most reads that
+/// an input may take, [`MAX_READS`].
 pub fn read_to_end<R: Read>(input: &mut Counted<R>, bytes: &mut Vec<u8>) -> Result<(), ReadFault>
     ensures { ReadsToEnd R.remaining MAX_READS input.old input.new bytes.old.items bytes.new.items
         result }
@@ -170,11 +170,11 @@ pub fn read_to_end<R: Read>(input: &mut Counted<R>, bytes: &mut Vec<u8>) -> Resu
     read_to_end_within(input, bytes, MAX_READS)
 }
 
-/// Adds all that the input still has to `bytes`, within a limit of reads.
+/// Adds the rest of the input to `bytes`, within a limit of reads.
 ///
-/// Each call of the reader is a read: one that a signal interrupted, and the one that gives no
-/// byte, which is the end. `TooManyReads` is answered after `reads` calls that did not reach the
-/// end, and no further call is made. After a refusal a prefix of the input was added.
+/// Each call of the reader is a read, including one that a signal interrupted, and the one that
+/// gives no byte, which is the end. `TooManyReads` is returned after `reads` calls that did not
+/// reach the end, and no further call is made. After a refusal a prefix of the input was added.
 pub fn read_to_end_within<R: Read>(
     input: &mut Counted<R>,
     bytes: &mut Vec<u8>,
@@ -196,7 +196,7 @@ pub fn read_to_end_within<R: Read>(
     Err(ReadFault::TooManyReads)
 }
 
-/// Writes some bytes from the beginning of a piece that has some, and answers how many.
+/// Writes some bytes from the beginning of a piece that isn't empty, and returns how many.
 fn write_some<W: Write>(output: &mut Counted<W>, piece: &[u8]) -> Result<usize, WriteFailed>
     requires { 0 < length piece.now }
     ensures some_taken { IfOk result (λ taken. 0 < taken) }
@@ -218,7 +218,7 @@ fn write_some<W: Write>(output: &mut Counted<W>, piece: &[u8]) -> Result<usize, 
     Err(WriteFailed)
 }
 
-/// Writes the text whole. Where that fails, a prefix of it was written.
+/// Writes the whole text. If that fails, a prefix of it was written.
 pub fn write_all<W: Write>(output: &mut Counted<W>, text: &[u8]) -> Result<(), WriteFailed>
     ensures { Writes W.contents output.old output.new text.now result }
 {
@@ -230,7 +230,7 @@ pub fn write_all<W: Write>(output: &mut Counted<W>, text: &[u8]) -> Result<(), W
     Ok(())
 }
 
-/// Has the writer pass on what it holds back.
+/// Flushes the writer.
 pub fn flush<W: Write>(output: &mut Counted<W>) -> Result<(), WriteFailed>
     ensures { Flushes W.contents output.old output.new result }
 {

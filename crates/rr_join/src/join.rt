@@ -1,8 +1,8 @@
-//! Values of which any two have a join.
+//! Values that can be joined.
 ghost use Rattle.std.specs.Prelude.{◌≡◌};
 
-/// Values that can be merged in any order, in any grouping and any number of times: what is left
-/// is the same.
+/// Values that can be merged in any order, in any grouping and any number of times, with the same
+/// result.
 pub trait Join {
     ghost join_of: { Self → Self → Self };
 

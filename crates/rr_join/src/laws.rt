@@ -1,7 +1,7 @@
-//! The laws of the join, with no work to do: each function has an empty body.
+//! The laws of the join: functions with empty bodies, whose contracts state them.
 ghost use Rattle.rr_join.specs.Laws.{MergeIsCommutative, MergeIsAssociative, MergeIsIdempotent, JoinIsCommutative, JoinIsAssociative, JoinIsIdempotent, JoinIsTrimmed};
 
-/// Merging keeps at each key the greater value: in any order, in any grouping, and any number of
+/// Merging keeps the greater value at each key: in any order, in any grouping, and any number of
 /// times.
 pub fn merge_keeps_the_greater<N: Ord, T: Ord>()
     ensures commutative { MergeIsCommutative N.cmp T.cmp }

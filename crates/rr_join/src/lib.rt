@@ -1,10 +1,10 @@
-//! Finite maps whose values are ordered and that are joined: merged key by key by the greater
-//! value, and trimmed to the keys that are then live.
+//! Finite maps whose values are ordered and that can be joined: merged key by key, keeping the
+//! greater value, and trimmed to the keys that are then live.
 //!
-//! The definitions stand in `specs/Maps.antt`. For keys and values that tie only where they are
-//! equal, and any horizon, the join is commutative and associative, what it gives is trimmed, and
-//! the join of a map with itself only trims it (`laws`). [`join_max`] keeps the greater of two
-//! values, and [`Join`] is what a type promises whose values are joined.
+//! The definitions are in `specs/Maps.antt`. For keys and values that tie only if they are equal,
+//! and any horizon, the join is commutative and associative, its result is trimmed, and the join of
+//! a map with itself only trims it (`laws`). [`join_max`] keeps the greater of two values, and
+//! [`Join`] is what a type promises if its values are joined.
 #![tactic(auto)]
 
 mod join;

@@ -10,10 +10,11 @@ use rr_text::bytes::BACKSLASH;
 use std::alloc::{AllocError, Global};
 
 /// The name that is written: a backslash before a special byte of the class is dropped, and any
-/// other byte stands for itself, a special byte that no backslash took too.
+/// other byte stands for itself, even a special byte that no backslash took.
 ///
 /// The rule is that of the "InfluxDB line protocol reference" for comma, equals and space; a
-/// backslash before any other byte, another backslash too, stands for itself. The cost is one pass.
+/// backslash before any other byte, even another backslash, stands for itself. The cost is one
+/// pass.
 pub fn unescape(alloc: Global, class: Class, raw: &[u8]) -> Result<Vec<u8>, AllocError>
     ensures { IfOk result (λ name. name.items ≡ unescape class raw.now) }
 {
@@ -44,7 +45,7 @@ pub(crate) fn first_unit(class: Class, raw: &[u8]) -> Option<(u8, &[u8])>
 
 /// The name as it is written: with a backslash before each special byte of the class.
 ///
-/// [`unescape`] gives the name back. The cost is one pass.
+/// [`unescape`] restores the name. The cost is one pass.
 pub fn escape(alloc: Global, class: Class, name: &[u8]) -> Result<Vec<u8>, AllocError>
     ensures { IfOk result (λ raw. raw.items ≡ escape class name.now) }
 {

@@ -13,7 +13,7 @@ pub enum KeyFault {
     EmptyName,
     /// A name has a line feed or ends in a backslash.
     BadName,
-    /// Two tags have one key.
+    /// Two tags have the same key.
     DuplicateTag,
     /// There are more tags than a key may have.
     TooManyTags,

@@ -15,11 +15,10 @@ use std::cmp::Ordering;
 use std::marker::Model;
 use std::sync::ArcSlice;
 
-/// The key of a series: its text, which is spelled in one way.
+/// The key of a series: its text, which has only one spelling.
 ///
-/// Keys are equal where their texts are, and are ordered by the bytes of their texts; either takes
-/// one pass over the bytes. The text is shared by the copies of a key, which may be in several
-/// threads.
+/// Keys are equal if their texts are, and are ordered by the bytes of their texts; both take one
+/// pass over the bytes. The text is shared by the copies of a key, which may be in several threads.
 #[derive(Debug, Drop)]
 pub struct SeriesKey {
     alloc: Global,
@@ -29,9 +28,9 @@ pub struct SeriesKey {
 /// Where the text of a key is.
 #[derive(Debug, Drop)]
 enum Text {
-    /// In a vector of the key's own, which can be written over for the next key.
+    /// In a vector of the key's own, which can be reused for the next key.
     Own(Vec<u8>),
-    /// Where the copies of the key have it too.
+    /// Shared with the copies of the key.
     Shared(ArcSlice<u8>),
 }
 
@@ -90,12 +89,12 @@ impl SeriesKey {
     ghost use Rattle.rr_key.specs.Series.{IsKeyText};
     ghost use Rattle.rr_key.specs.Making.{names_of, making_fault, key_of};
 
-    /// The key of a measurement, tags in any order and a field, all of them unescaped.
+    /// The key of a measurement, tags in any order and a field, all unescaped.
     ///
-    /// Refusals, in this order: `EmptyName`; `BadName`, a name with a line feed or that ends in a
+    /// Refusals, in this order: `EmptyName`; `BadName`, a name that has a line feed or ends in a
     /// backslash; `DuplicateTag`; `TooManyTags`, more than [`MAX_TAGS`](crate::MAX_TAGS);
     /// `KeyTooLong`, a text of more than [`MAX_KEY_TEXT`](rr_text::limits::MAX_KEY_TEXT) bytes.
-    /// `Memory` is answered where memory runs out for the text, so never in place of a refusal. The
+    /// `Memory` is returned if memory runs out for the text, so never in place of a refusal. The
     /// cost is that of sorting the tags, measuring the text and writing it; more tags than a key
     /// may have are compared pair by pair.
     pub fn new(
@@ -115,7 +114,7 @@ impl SeriesKey {
         Ok(key)
     }
 
-    /// The key whose text the bytes are. Other bytes are refused as `BadKey`, before any memory is
+    /// The key whose text is these bytes. Other bytes are refused as `BadKey`, before any memory is
     /// taken.
     ///
     /// The cost is one pass over the bytes and a copy of them.
@@ -133,7 +132,7 @@ impl SeriesKey {
         Ok(key)
     }
 
-    /// The key of a text that is known to be a key text, so that it isn't read again.
+    /// The key of a text that is known to be a key text, and so isn't read again.
     ///
     /// The cost is a copy of the bytes.
     pub fn of_text(alloc: Global, text: &[u8]) -> Result<SeriesKey, AllocError>
@@ -145,7 +144,7 @@ impl SeriesKey {
     }
 
     /// The key of a text that is known to be a key text, in the vector that has it. No byte is
-    /// copied, and [`into_vec`](SeriesKey::into_vec) gives the vector back.
+    /// copied, and [`into_vec`](SeriesKey::into_vec) returns the vector.
     pub fn from_vec(alloc: Global, text: Vec<u8>) -> SeriesKey
         requires { IsKeyText text.items }
         ensures { result ≡ text.items }
@@ -156,8 +155,8 @@ impl SeriesKey {
         }
     }
 
-    /// The vector that the key was made from, to be written over for another; of any other key an
-    /// empty one.
+    /// The vector that the key was made from, to be reused for another; an empty one for any other
+    /// key.
     pub fn into_vec(self) -> Vec<u8> {
         match self.text {
             Text::Own(text) => text,
@@ -176,8 +175,8 @@ impl SeriesKey {
         }
     }
 
-    /// A further owner of the same text: no byte is copied and no memory is taken. A text in a
-    /// vector of the key's own is copied once, to be shared from then on.
+    /// Another owner of the same text: no byte is copied and no memory is taken. If this key has
+    /// its text in a vector of its own, that is copied; copies of the copy share it.
     pub fn copy(&self) -> Result<SeriesKey, AllocError>
         ensures { IfOk result (λ key. key ≡ self.now) }
     {

@@ -72,7 +72,7 @@ fn split_tag(text: &[u8]) -> Option<(&[u8], &[u8])>
     Some((key, rest))
 }
 
-/// Whether one written key, once it is unescaped, is below another.
+/// Whether one written key, unescaped, is below another.
 fn is_below(left: &[u8], right: &[u8]) -> bool
     ensures { result ≡ is_lt (bytes_cmp (unescape Other left.now) (unescape Other right.now)) }
 {

@@ -1,4 +1,4 @@
-//! What holds of the definitions themselves: functions without a body, whose contracts say it.
+//! The laws of the definitions themselves: functions with empty bodies, whose contracts state them.
 
 ghost use Rattle.std.specs.Prelude.{◌≡◌, ◌↔◌, ℕ, List, ◌++◌, length, take, None, true, false};
 ghost use Rattle.std.specs.List.Sorted.{IsPermutation};
@@ -12,8 +12,9 @@ ghost use Rattle.rr_key.specs.Unit.{escape, unescape, name_len};
 
 use crate::class::Class;
 
-/// A name and the units that write it: the name is read back, its units end where it ends, and the
-/// units at the beginning of any text are those that write what they are read as.
+/// A name and the units that write it: the name reads back; in a text whose next byte may follow a
+/// name, its units are the name that is found there; and the units at the beginning of any text are
+/// those that write what they are read as.
 pub fn a_name_is_written_in_one_way(class: Class)
     ensures back { (name : List ℕ) → unescape class (escape class name) ≡ name }
     ensures ends { (name rest : List ℕ) → MayFollow class name rest
@@ -32,12 +33,12 @@ pub fn tags_stand_in_any_order()
         ≡ series_of (record { measurement = measurement; tags = others; field = field }) }
 {}
 
-/// Whether a text is a key text is decided by one pass over it.
+/// One pass over a text decides whether it is a key text.
 pub fn key_texts_are_decidable()
     ensures { (text : List ℕ) → (is_key_text text ≡ true) ↔ IsKeyText text }
 {}
 
-/// A text is the key text of one series at most: key and text determine each other.
+/// A text is the key text of at most one series: key and text determine each other.
 pub fn a_key_text_is_of_one_series()
     ensures { (series other : Series) → IsSeries series → IsSeries other
         → key_text series ≡ key_text other → series ≡ other }

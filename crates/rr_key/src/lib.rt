@@ -1,9 +1,9 @@
 //! Series keys: one text for each series.
 //!
 //! A series is named by a measurement, tags and a field. Its key is a text of these names, and each
-//! series has one text only: [`SeriesKey::new`] writes it, with the tags in the order of their
-//! keys, and [`SeriesKey::parse_text`] takes such texts and no others. So keys are compared, sorted
-//! and sent as bytes. [`is_key_text`] tells which bytes are one, and takes no memory.
+//! series has only one: [`SeriesKey::new`] writes it, with the tags in the order of their keys, and
+//! [`SeriesKey::parse_text`] accepts such texts and no others. So keys are compared, sorted and
+//! sent as bytes. [`is_key_text`] says whether bytes are one, and takes no memory.
 //!
 //! ```text
 //! key text = measurement { "," tag key "=" tag value } " " field key
@@ -16,8 +16,8 @@
 //! [`MAX_TAGS`] tags, their keys differ, and its text has at most
 //! [`MAX_KEY_TEXT`](rr_text::limits::MAX_KEY_TEXT) bytes.
 //!
-//! In `specs/` a series has its tags as a map, and its key text is a function of it; [`laws`] says
-//! that no two series have one text, and that a name is written in one way.
+//! In `specs/`, a series has its tags as a map, and its key text is a function of it; [`laws`] says
+//! that no two series have the same text, and that a name is written in only one way.
 #![tactic(auto)]
 
 mod class;

@@ -58,7 +58,7 @@ fn fault_of_many(tags: &[(&[u8], &[u8])]) -> KeyFault
     }
 }
 
-/// The key text of names that are names of a key, with at most as many tags as a key may have.
+/// The key text of names that a key may have, with no more tags than a key may have.
 fn sort_and_write(
     alloc: Global,
     measurement: &[u8],

@@ -12,7 +12,7 @@ use memchr::{memchr2, memchr3};
 use rr_text::bytes::{BACKSLASH, COMMA, EQUALS, LINE_FEED, SPACE};
 
 /// How many bytes the written name at the beginning of the text takes: up to the first special byte
-/// of the class that no backslash took, or to the end.
+/// of the class that isn't taken by a backslash, or to the end.
 ///
 /// A backslash before a special byte takes it; any other backslash is a byte of the name. The rule
 /// is that of the "InfluxDB line protocol reference". The cost is one pass over the name, and no
@@ -32,11 +32,11 @@ pub fn name_len(class: Class, text: &[u8]) -> usize
     text.len()
 }
 
-/// How many bytes are read one by one before the rest is searched: most names are shorter, and a
-/// search costs more to begin than to read them.
+/// How many bytes are read one by one before the rest is searched: most names are shorter, and
+/// starting a search costs more than reading them.
 const NEAR: usize = 8;
 
-/// The first special byte of the class.
+/// Where the first special byte of the class is.
 fn find_special(class: Class, text: &[u8]) -> Option<usize>
     ensures { IsFirstByte (is_special class) text.now result }
 {
@@ -52,7 +52,7 @@ fn find_special(class: Class, text: &[u8]) -> Option<usize>
     }
 }
 
-/// The first special byte of the class, by a search of many bytes at once.
+/// Where the first special byte of the class is, by a search of many bytes at once.
 fn search_special(class: Class, text: &[u8]) -> Option<usize>
     ensures { IsFirstByte (is_special class) text.now result }
 {

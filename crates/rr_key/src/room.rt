@@ -63,7 +63,7 @@ fn room_after_name(room: usize, class: Class, name: &[u8]) -> Option<usize>
     Some(left)
 }
 
-/// How many bytes a byte of a name takes as it is written.
+/// How many bytes a byte of a name takes when written.
 fn unit_len(class: Class, byte: u8) -> usize
     ensures { result ≡ length (escape class (byte ∷ [])) }
 {

@@ -12,7 +12,7 @@ use crate::escapes::push_escaped;
 use rr_text::bytes::{COMMA, EQUALS, SPACE};
 use std::alloc::{AllocError, Global};
 
-/// The bytes that are taken at once for a key text; most have fewer.
+/// The bytes taken at once for a key text; most have fewer.
 const ROOM: usize = 128;
 
 /// The key text of names whose tags are in the order of their keys.

@@ -6,7 +6,7 @@ use std::alloc::{AllocError, AllocFailed};
 use std::fmt;
 use thiserror::Error;
 
-/// Why a line is refused: of the faults that a line has, the first one as it is read.
+/// Why a line is refused: the first of its faults as it is read.
 #[derive(Clone, Copy, Debug, PartialEq, Eq, Error)]
 pub enum LineFault {
     /// The line has no measurement.
@@ -17,7 +17,7 @@ pub enum LineFault {
     MissingTagValue,
     /// There are more than [`MAX_TAGS`](rr_key::MAX_TAGS) tags.
     TooManyTags,
-    /// The key of a tag occurs before it.
+    /// The key of a tag has occurred before.
     DuplicateTag,
     /// The line ends before its fields.
     NoFields,
@@ -27,7 +27,7 @@ pub enum LineFault {
     MissingFieldValue,
     /// A field is true or false.
     BooleanField,
-    /// An integer is not in `i64`.
+    /// An integer doesn't fit in `i64`.
     IntegerRange,
     /// A field is an unsigned integer.
     UnsignedField,
@@ -39,11 +39,11 @@ pub enum LineFault {
     BadField,
     /// There are more than [`MAX_FIELDS`](crate::MAX_FIELDS) fields.
     TooManyFields,
-    /// The key of a field occurs before it.
+    /// The key of a field has occurred before.
     DuplicateField,
     /// The time is not an integer, or something other than spaces follows it.
     BadTime,
-    /// The time in nanoseconds is not in `i64`.
+    /// The time in nanoseconds doesn't fit in `i64`.
     TimeRange,
     /// The key text of a field is longer than [`MAX_KEY_TEXT`](rr_text::limits::MAX_KEY_TEXT).
     KeyTooLong,

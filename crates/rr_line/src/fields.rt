@@ -34,8 +34,8 @@ pub(crate) fn read_fields<'a>(
     Ok((fields, rest))
 }
 
-/// The fields at the beginning, up to the first that is refused, and what follows them or why it
-/// is.
+/// The fields at the beginning, up to the first that is refused, and what follows them or why it is
+/// refused.
 fn gather_fields<'a>(
     alloc: Global,
     text: &'a [u8],

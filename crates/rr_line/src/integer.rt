@@ -10,8 +10,8 @@ use crate::mark::INTEGER_MARK;
 use rr_text::bytes::{COMMA, MINUS, SPACE, begins, strip};
 use rr_text::text::unsigned;
 
-/// The integer at the beginning, with its mark, and what follows it. What `read_value` refuses
-/// isn't answered.
+/// The integer at the beginning, with its mark, and what follows it; `None` if `read_value` refuses
+/// it.
 pub(crate) fn read_integer(text: &[u8]) -> Option<(i64, &[u8])>
     ensures { IfSome result (λ value. IsValue text.now value.0 value.1.now) }
 {
@@ -25,7 +25,7 @@ pub(crate) fn read_integer(text: &[u8]) -> Option<(i64, &[u8])>
     Some((number, rest))
 }
 
-/// The number that the digits at the beginning write, and what follows them.
+/// The number that the leading digits write, and what follows them.
 fn read_number(text: &[u8]) -> Option<(u64, &[u8])>
     ensures { IfSome result (λ number. IsNumber text.now number.0 number.1.now) }
 {
@@ -41,7 +41,7 @@ fn read_number(text: &[u8]) -> Option<(u64, &[u8])>
     Some((number, left))
 }
 
-/// The value of the digit at the beginning, and what follows it.
+/// The value of the leading digit, and what follows it.
 fn first_digit(text: &[u8]) -> Option<(u64, &[u8])>
     ensures { IfSome result (λ digit. IsDigit text.now digit.0 digit.1.now) }
 {
@@ -51,7 +51,7 @@ fn first_digit(text: &[u8]) -> Option<(u64, &[u8])>
     }
 }
 
-/// Whether nothing follows a value, or a byte that ends it.
+/// Whether what follows a value is nothing, or begins with a byte that ends it.
 fn ends_value(text: &[u8]) -> bool
     ensures { OnTrue result (EndsValue text.now) }
 {
@@ -61,7 +61,7 @@ fn ends_value(text: &[u8]) -> bool
     }
 }
 
-/// The integer of digits after a minus or not, which write this number, if it is in `i64`.
+/// The integer of digits, with or without a minus, that write this number, if it fits in `i64`.
 fn with_sign(text: &[u8], number: u64) -> Option<i64>
     requires { number_at (unsigned text.now) ≡ Some number }
     ensures { result ≡ integer_at text.now }

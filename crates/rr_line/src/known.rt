@@ -1,4 +1,4 @@
-//! Lines of a series that is known.
+//! Lines of a known series.
 
 ghost use Rattle.std.specs.Prelude.{◌≡◌, false, [], ◌∷◌, ◌++◌, IfSome, OnSome, Ok};
 ghost use Rattle.rr_text.specs.Bytes.{begins};
@@ -16,15 +16,15 @@ use crate::precision::Precision;
 use rr_key::SeriesKey;
 use rr_text::bytes::{COMMA, EQUALS, begins, strip};
 
-/// The value and the time, in nanoseconds, of a line that says one sample of a series, by the key
-/// of the series.
+/// The value and the time, in nanoseconds, of a line that says one sample of the series of this
+/// key.
 ///
-/// What is answered is what [`parse_line`](crate::parse_line) reads of the line. `None` says
-/// nothing: the line may be of another series, have further fields, write its names in another way
-/// than the key text does, say nothing, or be refused.
+/// What is returned is what [`parse_line`](crate::parse_line) reads from the line. `None` says
+/// nothing: the line may be of another series, have further fields, spell its names differently
+/// from the key text, say nothing, or be refused.
 ///
-/// The cost is that of comparing the key text and of reading the value; the time is read where
-/// the line ends in other bytes than the one before, whose time is in `last`. No memory is taken.
+/// The cost is that of comparing the key text and of reading the value; the time is read only if
+/// the line ends in other bytes than the previous one, whose time is in `last`. No memory is taken.
 pub fn read_known(
     line: &[u8],
     key: &SeriesKey,
@@ -66,7 +66,7 @@ pub(crate) fn after_key<'a>(text: &'a [u8], key: &[u8]) -> Option<&'a [u8]>
     }
 }
 
-/// The time of what follows a field, if that is the last one.
+/// The time in what follows a field, if that is the last one.
 pub(crate) fn time_after(
     rest: &[u8],
     precision: Precision,

@@ -20,11 +20,11 @@ use rr_text::limits::MAX_FIELDS;
 
 /// A line that is read field by field, each as a sample of the series of a key.
 ///
-/// [`first_field`](KnownLine::first_field) begins it, [`next_field`](KnownLine::next_field) goes
-/// on, and [`time`](KnownLine::time) ends it: the line then says these samples, in this order, and
-/// no others. Each may answer `None`, which says nothing of the line, as that of
-/// [`read_known`](crate::read_known). It also comes if the keys of the fields don't rise, byte by
-/// byte, as most senders sort them, or if one of them has a space.
+/// [`first_field`](KnownLine::first_field) begins it, [`next_field`](KnownLine::next_field)
+/// continues it, and [`time`](KnownLine::time) ends it: the line then says these samples, in this
+/// order, and no others. Each may return `None`, which says nothing about the line, like that of
+/// [`read_known`](crate::read_known). `None` also comes if the keys of the fields don't rise, byte
+/// by byte, as most senders sort them, or if one of them has a space.
 ///
 /// The cost of a field is that of comparing its key text, twice, and of reading the value. No
 /// memory is taken.
@@ -32,7 +32,7 @@ use rr_text::limits::MAX_FIELDS;
 pub struct KnownLine<'l, 'k> {
     /// What precedes the field in each key text.
     prefix: &'k [u8],
-    /// The key of the field that was read last.
+    /// The key of the field read last.
     field: &'k [u8],
     /// What follows its value.
     rest: &'l [u8],
@@ -59,8 +59,8 @@ impl<'l, 'k> KnownLine<'l, 'k> {
         Some((value, known))
     }
 
-    /// The value of the next field, if the key text of its series is this one, at the cost of the
-    /// first.
+    /// The value of the next field, if the key text of its series is this one, at the same cost as
+    /// the first.
     pub fn next_field(&self, key: &'k SeriesKey) -> Option<(i64, KnownLine<'l, 'k>)>
         ensures { (line : List ℕ) (samples : List Sample) → HasRead line samples self.now
             → IfSome result (λ read. HasRead line (samples ++ (key.now, read.0) ∷ []) read.1) }
@@ -89,7 +89,7 @@ impl<'l, 'k> KnownLine<'l, 'k> {
         time_after(self.rest, precision, last)
     }
 
-    /// Whether a field of this prefix and this key may come after those that were read.
+    /// Whether a field of this prefix and this key may come after those already read.
     fn may_precede(&self, prefix: &[u8], field: &[u8]) -> bool
         ensures fields_fit { OnTrue result (self.now.count < MAX_FIELDS) }
         ensures same { OnTrue result (prefix.now ≡ self.now.prefix.now) }

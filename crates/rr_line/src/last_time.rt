@@ -1,4 +1,4 @@
-//! The time of the line before.
+//! The time of the previous line.
 
 ghost use Rattle.std.specs.Prelude.{◌≡◌, Ok};
 ghost use Rattle.rr_line.specs.Part.{skip_spaces};
@@ -8,13 +8,13 @@ use crate::precision::Precision;
 use crate::time::read_ending;
 use arrayvec::ArrayVec;
 
-/// The most bytes that are kept: a space, a minus and the digits of an `i64`, and some more.
+/// The most bytes kept: a space, a minus and the digits of an `i64`, and some more.
 const MAX_KEPT: usize = 24;
 
-/// The time that was read last, with the bytes that wrote it: a line that ends in the same bytes
-/// has the same time, which isn't read again.
+/// The time read last, with the bytes that wrote it: a line that ends in the same bytes has the
+/// same time, which isn't read again.
 ///
-/// It takes no memory. An ending that is longer than a time needs is read each time.
+/// It takes no memory. An ending longer than a time needs is read each time.
 #[derive(Debug, Drop)]
 pub struct LastTime {
     precision: Precision,
@@ -41,7 +41,7 @@ impl LastTime {
         }
     }
 
-    /// The time of what follows a line's fields, if that is a time or none.
+    /// The time in what follows a line's fields, if that is a time or nothing.
     pub(crate) fn read(&mut self, precision: Precision, ending: &[u8]) -> Option<Option<i64>>
         ensures { IfSome result (λ time. ending_at precision (skip_spaces ending.now) ≡ Ok time) }
     {

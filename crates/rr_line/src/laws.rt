@@ -1,4 +1,4 @@
-//! What holds of the definitions themselves: functions without a body, whose contracts say it.
+//! The laws of the definitions themselves: functions with empty bodies, whose contracts state them.
 
 ghost use Rattle.std.specs.Prelude.{◌≡◌, ◌≢◌, ◌↔◌, ℕ, List, Result, Err};
 ghost use Rattle.rr_text.specs.Bytes.{HasNoLineFeed};
@@ -11,8 +11,8 @@ ghost use Rattle.rr_point.specs.Point.{PointView};
 ghost use Rattle.rr_line.specs.Line.{LineView, point};
 ghost use Rattle.rr_line.specs.Reading.{reading};
 
-/// Of each line the grammar has exactly one of three: it says nothing, it says one point, or it
-/// has one fault. Running out of memory is not one of them.
+/// By the grammar each line does exactly one of three things: it says nothing, it says one point,
+/// or it has one fault. Running out of memory is not such a fault.
 pub fn a_line_is_one_of_three()
     ensures one { (precision : Precision) (line : List ℕ)
         → (parsed : Result LineView LineFault) × IsLineOf precision line parsed
@@ -21,7 +21,7 @@ pub fn a_line_is_one_of_three()
         → HasFault precision line fault → fault ≢ Memory }
 {}
 
-/// The reading and the grammar are one.
+/// The reading and the grammar agree.
 pub fn reading_is_the_grammar()
     ensures { (precision : Precision) (line : List ℕ) (parsed : Result LineView LineFault)
         → (reading precision line ≡ parsed) ↔ IsLineOf precision line parsed }

@@ -1,13 +1,13 @@
-//! Lines of samples, as the line protocol of InfluxDB writes them, read into points.
+//! Lines of samples in the line protocol of InfluxDB, read into points.
 //!
-//! [`parse_line`] takes one line, without the line feed that ended it, and the [`Precision`] of
-//! its time. It reads the line part by part, from left to right, and answers a [`Line`]: nothing,
-//! or a [`Point`] whose names are slices of the line. A line that is not of the grammar is refused
-//! with the first [`LineFault`] that it has. [`Point::write_key`] writes the key text of a field's
-//! series.
+//! [`parse_line`] takes one line, without the line feed that ended it, and the [`Precision`] of its
+//! time. It reads the line part by part, from left to right, and returns a [`Line`]: nothing, or a
+//! [`Point`] whose names are slices of the line. A line outside the grammar is refused with its
+//! first [`LineFault`]. [`Point::write_key`] writes the key text of a field's series.
 //!
 //! ```text
-//! line  = [ spaces ] measurement { "," tag } spaces field { "," field } [ spaces time ] [ spaces ] [ CR ]
+//! line  = [ spaces ] measurement { "," tag } spaces field { "," field }
+//!         [ spaces time ] [ spaces ] [ CR ]
 //! tag   = key "=" value
 //! field = key "=" [ "-" ] digits "i"
 //! time  = [ "-" ] digits
@@ -15,23 +15,23 @@
 //!
 //! A measurement is a name of the class [`Measurement`](rr_key::Class::Measurement), and ends
 //! before a comma or a space; keys and the values of tags are names of the class
-//! [`Other`](rr_key::Class::Other), and end before an equals too. A backslash before such a byte
-//! takes it into the name; any other backslash is a byte of the name. The one separating byte is
-//! the space: a tab is a byte of a name. A line that is empty, or begins with `#`, says nothing.
+//! [`Other`](rr_key::Class::Other), and also end before an equals. A backslash before such a byte
+//! takes it into the name; any other backslash is a byte of the name. The only separator is the
+//! space: a tab is a byte of a name. A line that is empty, or begins with `#`, says nothing.
 //!
 //! A line has at most [`MAX_TAGS`](rr_key::MAX_TAGS) tags and [`MAX_FIELDS`] fields, each with a
 //! key of its own, and the key text of each field has at most
 //! [`MAX_KEY_TEXT`](rr_text::limits::MAX_KEY_TEXT) bytes. The rules are those of the "InfluxDB
 //! line protocol reference" where it has them; fields of other kinds are refused by their kind.
 //!
-//! A sender repeats its series, so a line is mostly one of a series whose key text is known.
+//! A sender repeats its series, so most lines are of a series whose key text is known.
 //! [`read_known`] reads such a line, and [`KnownLine`] one of several fields, by comparing the key
-//! texts: what they answer is what [`parse_line`] reads, and where they don't answer, it is to be
-//! asked. [`LastTime`] keeps the time of the line before, which is mostly that of the next one.
+//! texts: what they return is what [`parse_line`] reads, which must be called if they return
+//! nothing. [`LastTime`] keeps the time of the previous line, which is mostly that of the next one.
 //!
-//! In `specs/` the grammar is a relation between a line's bytes and what they say, or why they are
+//! In `specs/`, the grammar is a relation between a line's bytes and what they say, or why they are
 //! refused: good parts, and what follows them. The reading is a function of these bytes. [`laws`]
-//! says that the two are one, and that each line has exactly one answer.
+//! says that the two agree, and that each line has exactly one answer.
 #![tactic(auto)]
 
 mod fault;

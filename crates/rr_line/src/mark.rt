@@ -1,4 +1,4 @@
-//! The bytes that mark the value of a field, pinned at the end as numbers of ASCII.
+//! The bytes that mark the value of a field, pinned at the end to their ASCII numbers.
 
 /// Begins and ends a text value.
 pub(crate) const QUOTE: u8 = b'"';

@@ -31,13 +31,12 @@ use std::alloc::Global;
 /// Reads one line, without the line feed that ended it.
 ///
 /// The line's time is in the unit of `precision`, the point's in nanoseconds. The rules are those
-/// of the "InfluxDB line protocol reference" and of the crate's page; of the faults of a line, the
-/// first one as it is read is answered. `Memory` is answered where memory runs out, and there
-/// alone.
+/// of the "InfluxDB line protocol reference" and of the crate's page; of a line's faults, the first
+/// one as it is read is returned. `Memory` is returned exactly when memory runs out.
 ///
 /// The cost is that of a few passes over the line, and of comparing the keys of its tags, and those
-/// of its fields, pair by pair; where there are more than 16 they are sorted. Memory is taken for
-/// the fields, and for the tags where they are more than four.
+/// of its fields, pair by pair; more than 16 are sorted instead. Memory is taken for the fields,
+/// and for the tags if there are more than four.
 pub fn parse_line<'a>(
     alloc: Global,
     line: &'a [u8],
@@ -45,10 +44,10 @@ pub fn parse_line<'a>(
 ) -> Result<Line<'a>, LineFault>
     requires { HasNoLineFeed line.now }
 
-    // The answer is what the reading says, unless memory runs out.
+    // The result is what the reading says, unless memory runs out.
     ensures read { GivesUnless LineFault.Memory line_view result (reading precision line.now) }
 
-    // What is answered is of the grammar, and what is of the grammar is answered.
+    // What is returned is of the grammar, and what is of the grammar is returned.
     ensures found { AnswersUnless LineFault.Memory line_view result (IsLineOf precision line.now) }
     ensures only { (parsed : Result LineView LineFault) → IsLineOf precision line.now parsed
         → GivesUnless LineFault.Memory line_view result parsed }
@@ -132,8 +131,8 @@ fn skip_gap(gap: &[u8]) -> Result<&[u8], LineFault>
     Ok(text)
 }
 
-/// Whether a key text is too long: it is as long as what precedes the fields in the line, a space
-/// and the field's key.
+/// Whether a key text is too long: its length is that of what precedes the fields in the line, a
+/// space and the field's key.
 fn has_long_key(prefix: &[u8], fields: &[Field<'_>]) -> bool
     ensures { result ≡ list_any
         (λ field. nat_lt MAX_KEY_TEXT (length prefix.now + 1 + length field.0))

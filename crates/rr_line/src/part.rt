@@ -21,7 +21,7 @@ pub(crate) fn skip_spaces(text: &[u8]) -> &[u8]
     left
 }
 
-/// The text before a byte that ends it.
+/// The text before its last byte, if that is this one.
 pub(crate) fn before_last(byte: u8, text: &[u8]) -> Option<&[u8]>
     ensures { option_map (λ prefix. prefix.now) result ≡ before_last byte text.now }
 {
@@ -41,7 +41,7 @@ pub(crate) fn content(line: &[u8]) -> &[u8]
     }
 }
 
-/// The name at the beginning, and what follows it; where there is none, the line is refused.
+/// The name at the beginning, and what follows it; if there is none, the line is refused.
 pub(crate) fn read_name(
     class: Class,
     missing: LineFault,

@@ -8,7 +8,7 @@ ghost use Rattle.rr_line.specs.Prefix.{IsPlain};
 use rr_point::Tag;
 use rr_text::bytes::BACKSLASH;
 
-/// The text that precedes the fields of a line, where key texts have it as it stands: no name has a
+/// The text that precedes the fields of a line, if key texts have it verbatim: no name has a
 /// backslash, and the keys of the tags rise.
 pub(crate) fn key_prefix<'a>(text: &'a [u8], tags: &[Tag<'_>]) -> Option<&'a [u8]>
     ensures same { IfSome result (λ prefix. prefix.now ≡ text.now) }

@@ -8,7 +8,7 @@ ghost use Rattle.rr_line.specs.Gathering.{is_below, rise};
 use rr_text::bytes::{self, Keyed};
 use rr_text::limits::MAX_FIELDS;
 
-/// The most keys that are compared pair by pair. More of them are sorted.
+/// The most keys that are compared pair by pair. More are sorted.
 const FEW: usize = 16;
 
 /// Whether a key occurs twice among entries.
@@ -23,8 +23,8 @@ pub(crate) fn has_repeat<T: Keyed>(entries: &[T]) -> bool
     }
 }
 
-/// Whether a key occurs twice among entries, by sorting the keys. Its array of 8 KiB is filled at
-/// each call, so a line of few keys doesn't come here.
+/// Whether a key occurs twice among entries, by sorting the keys. Its array of 4 KiB is filled on
+/// each call, so lines with few keys don't come here.
 #[inline(never)]
 fn has_repeat_among_many<T: Keyed>(entries: &[T]) -> bool
     requires { length entries.now ≤ MAX_FIELDS }
@@ -39,7 +39,7 @@ fn has_repeat_among_many<T: Keyed>(entries: &[T]) -> bool
     has_repeat_once_sorted(&mut keys[..count])
 }
 
-/// Whether a key occurs twice among keys, which are sorted.
+/// Whether a key occurs twice among keys, which it sorts.
 fn has_repeat_once_sorted(keys: &mut [&[u8]]) -> bool
     ensures { result ≡ has_repeat (map (λ key. key.now) keys.old) }
 {

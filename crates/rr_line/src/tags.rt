@@ -33,7 +33,8 @@ pub(crate) fn read_tags<'a>(
     Ok((tags, rest))
 }
 
-/// The tags at the beginning, up to the first that is refused, and what follows them or why it is.
+/// The tags at the beginning, up to the first that is refused, and what follows them or why it is
+/// refused.
 fn gather_tags<'a>(
     alloc: Global,
     text: &'a [u8],

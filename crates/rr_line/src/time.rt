@@ -25,7 +25,7 @@ pub(crate) fn read_ending(precision: Precision, ending: &[u8]) -> Result<Option<
     Ok(Some(time))
 }
 
-/// How many bytes precede the first space, or how many there are.
+/// How many bytes precede the first space, or all if there is none.
 fn word_len(text: &[u8]) -> usize
     ensures { IsPrefixLen (word_len text.now) text.now result }
 {
@@ -35,7 +35,7 @@ fn word_len(text: &[u8]) -> usize
     }
 }
 
-/// The time of a word that nothing but spaces follows.
+/// The time of a word that only spaces may follow.
 fn read_time(precision: Precision, word: &[u8], rest: &[u8]) -> Result<i64, LineFault>
     ensures { result ≡ word_time precision word.now rest.now }
 {
@@ -49,7 +49,7 @@ fn read_time(precision: Precision, word: &[u8], rest: &[u8]) -> Result<i64, Line
     }
 }
 
-/// The nanoseconds that an integer writes, if they are in `i64`.
+/// The nanoseconds that an integer writes, if they fit in `i64`.
 fn nanoseconds(precision: Precision, word: &[u8]) -> Option<i64>
     ensures { result ≡ time_of precision word.now }
 {

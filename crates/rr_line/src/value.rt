@@ -28,7 +28,7 @@ pub(crate) fn read_value(text: &[u8]) -> Result<(i64, &[u8]), LineFault>
     Ok((number, rest))
 }
 
-/// How many bytes precede the first comma or space, or how many there are.
+/// How many bytes precede the first comma or space, or all if there is neither.
 fn value_len(text: &[u8]) -> usize
     ensures { IsPrefixLen (value_len text.now) text.now result }
 {
@@ -106,7 +106,7 @@ fn is_unsigned(text: &[u8]) -> bool
     }
 }
 
-/// Whether the text is a float: a minus or not, a mantissa, and an exponent or not.
+/// Whether the text is a float: an optional minus, a mantissa, and an optional exponent.
 fn is_float(text: &[u8]) -> bool
     ensures { result ≡ is_float text.now }
 {
@@ -114,7 +114,7 @@ fn is_float(text: &[u8]) -> bool
     is_mantissa(unsigned(mantissa)) && is_exponent(exponent)
 }
 
-/// How many bytes precede the mark of an exponent, or how many there are.
+/// How many bytes precede the mark of an exponent, or all if there is none.
 fn mantissa_len(text: &[u8]) -> usize
     ensures { IsPrefixLen (mantissa_len text.now) text.now result }
 {
@@ -124,7 +124,7 @@ fn mantissa_len(text: &[u8]) -> usize
     }
 }
 
-/// Whether the text is digits, or digits on one side of a point or on both.
+/// Whether the text is digits, or digits on one or both sides of a point.
 fn is_mantissa(text: &[u8]) -> bool
     ensures { result ≡ is_mantissa text.now }
 {
@@ -145,7 +145,7 @@ fn are_digits(whole: &[u8], part: &[u8]) -> bool
     }
 }
 
-/// Whether the text is nothing, or a mark, a sign or not, and digits.
+/// Whether the text is nothing, or a mark, an optional sign, and digits.
 fn is_exponent(text: &[u8]) -> bool
     ensures { result ≡ is_exponent text.now }
 {
@@ -203,8 +203,7 @@ fn after_quote(text: &[u8]) -> Option<&[u8]>
     None
 }
 
-/// What follows a byte of a text, and the quote or the backslash that it takes if it is a
-/// backslash.
+/// What follows a byte of a text, or a backslash with the quote or the backslash that it takes.
 fn after_unit(first: u8, rest: &[u8]) -> &[u8]
     ensures value { result.now ≡ after_unit first rest.now }
     ensures shorter { length result.now ≤ length rest.now }

@@ -195,8 +195,8 @@ fn refusal(fault: LineFault) -> Result<Answer, AllocError>
     }
 }
 
-/// Writes the point of an item, if it has one. A known line that repeats the time of the line before
-/// doesn't read it again.
+/// Writes the point of an item, if it has one. A known line that repeats the time of the line
+/// before doesn't read it again.
 pub(crate) fn write_item<A: Cells, C: Clock>(
     alloc: Global,
     keeper: &mut Keeper<A>,

@@ -31,7 +31,7 @@ pub(crate) struct FoundCell<'a> {
     contribution: Contribution,
 }
 
-/// The key text that the bytes begin with, after its length, and what follows it. No memory is
+/// The key text at the beginning of the bytes, after its length, and what follows it. No memory is
 /// taken.
 #[tactic(auto, unfolding(crate::specs::Reading::key_at))]
 fn key_text_of(bytes: &[u8]) -> Result<(&[u8], &[u8]), PageFault>
@@ -50,7 +50,7 @@ fn key_text_of(bytes: &[u8]) -> Result<(&[u8], &[u8]), PageFault>
     Ok((text, rest))
 }
 
-/// The key that the bytes begin with, as a length and a text, and what follows it.
+/// The key at the beginning of the bytes, as a length and a text, and what follows it.
 pub fn key_of(alloc: Global, bytes: &[u8]) -> Result<(SeriesKey, &[u8]), PageFault>
     ensures read { GivesUnless PageFault.Memory (λ x. (x.0, x.1.now)) result (key_at bytes.now) }
     ensures memory { NeedsMemoryAfter PageFault.Memory (key_at bytes.now) result }
@@ -73,7 +73,7 @@ pub fn archive_of<'a>(bytes: &'a [u8], schema: &Schema) -> Result<(u8, &'a [u8])
     Ok((archive, rest))
 }
 
-/// A mask, and what follows it. The masks of version 1 have the places below 64.
+/// A mask, and what follows it. Masks of version 1 have the places below 64.
 fn mask_of(bytes: &[u8], version: Version) -> Result<(Mask, &[u8]), PageFault>
     ensures { Finds (λ x. (x.0, x.1.now)) result
         (number_at (mask_width version) bytes.now) }
@@ -113,8 +113,8 @@ fn contribution_of(bytes: &[u8], format: Version) -> Result<(Contribution, &[u8]
     Ok((contribution, rest))
 }
 
-/// The cell at the beginning of the bytes, in a version, one of the schema's and valid there, and
-/// what follows it. No memory is taken. Refusals are those of [`read_cell`].
+/// The cell at the beginning of the bytes, in this version and valid in the schema, and what
+/// follows it. No memory is taken. Refusals are those of [`read_cell`].
 #[tactic(auto, unfolding(crate::specs::Reading::cell_at))]
 pub(crate) fn find_cell<'a>(
     bytes: &'a [u8],
@@ -163,7 +163,7 @@ impl FoundCell<'_> {
         })
     }
 
-    /// Whether its name is greater than that of another, so that it may follow it.
+    /// Whether its name is greater than another's, so that it may follow it.
     pub(crate) fn is_after(&self, before: &FoundCell) -> bool
         ensures { result ≡ is_after (Some (found_cell before.now).0) (found_cell self.now).0 }
     {
@@ -179,8 +179,8 @@ impl FoundCell<'_> {
     }
 }
 
-/// The cell at the beginning of the bytes, in a version, one of the schema's and valid there, and
-/// what follows it. Refusals and the cost are those of [`read_cell`].
+/// The cell at the beginning of the bytes, in this version and valid in the schema, and what
+/// follows it. Refusals and the cost are those of [`read_cell`].
 pub fn read_cell_in<'a>(
     alloc: Global,
     bytes: &'a [u8],
@@ -198,14 +198,14 @@ pub fn read_cell_in<'a>(
     }
 }
 
-/// The cell at the beginning of the bytes, in a version, one of the schema's and valid there, and
-/// how many bytes it takes. Bytes may follow it.
+/// The cell at the beginning of the bytes, in this version and valid in the schema, and how many
+/// bytes it takes. Bytes may follow it.
 ///
-/// Refusals are those of the first bad field: `Short` where fewer bytes are left than a field has;
-/// `BadKey` where the length of the key is 0 or above 1,024, before its text is read, or the text
-/// is not a key text; `BadArchive`; and after the last field `BadContribution`, for the origin 0
-/// too. The key is copied last, so `Memory` comes only where a cell is there. The cost is linear in
-/// the key text.
+/// Refusals are those of the first bad field: `Short` if fewer bytes are left than the field has;
+/// `BadKey` if the length of the key is 0 or above 1,024, before its text is read, or if the text
+/// is not a key text; `BadArchive`; and after the last field `BadContribution`, also for the origin
+/// 0. The key is copied last, so `Memory` comes only if there is a cell. The cost is linear in the
+/// key text.
 pub fn read_cell(
     alloc: Global,
     bytes: &[u8],

@@ -16,7 +16,7 @@ use rr_cells::Cell;
 use rr_schema::Schema;
 use std::alloc::Global;
 
-/// Whether the name of a cell is greater than that of another, so that it may follow it.
+/// Whether the name of a cell is greater than another's, so that it may follow it.
 pub fn follows(before: &Cell, cell: &Cell) -> bool
     ensures { result ≡ is_after (Some (owned_cell before.now).0) (owned_cell cell.now).0 }
 {
@@ -65,7 +65,7 @@ fn cells_of<'a>(
     Ok((cells, rest))
 }
 
-/// The cells of the page that all of the bytes are, each copied as it is read.
+/// The cells of a page, given exactly its bytes, each copied as it is read.
 #[tactic(auto, unfolding(crate::specs::PageReading::page_at, crate::specs::PageReading::prefix_page_at))]
 fn copied_page(alloc: Global, bytes: &[u8], schema: &Schema) -> Result<Vec<Cell>, PageFault>
     ensures { GivesUnless PageFault.Memory (λ cells. map owned_cell cells.items) result
@@ -117,7 +117,7 @@ fn after_cells<'a>(
     Ok(rest)
 }
 
-/// Refuses bytes that are no page, as [`decode`] does. No memory is taken.
+/// Refuses bytes that are not a page, as [`decode`] does. No memory is taken.
 #[tactic(auto, unfolding(crate::specs::PageReading::page_at, crate::specs::PageReading::prefix_page_at))]
 fn check_page(bytes: &[u8], schema: &Schema) -> Result<(), PageFault>
     ensures good { OnOk result (IsOk (page_at schema.now bytes.now)) }
@@ -131,8 +131,8 @@ fn check_page(bytes: &[u8], schema: &Schema) -> Result<(), PageFault>
     Ok(())
 }
 
-/// The cells of the page that all of the bytes are. Where memory runs out, what is left is still
-/// checked, so that `Memory` hides no other fault.
+/// The cells of a page, given exactly its bytes. If memory runs out, the page is still checked to
+/// its end, so that `Memory` hides no other fault.
 fn page_of(alloc: Global, bytes: &[u8], schema: &Schema) -> Result<Vec<Cell>, PageFault>
     ensures { ReadsPage schema.now bytes.now result }
 {
@@ -147,24 +147,23 @@ fn page_of(alloc: Global, bytes: &[u8], schema: &Schema) -> Result<Vec<Cell>, Pa
     }
 }
 
-/// The cells of the page that the bytes are, each one of the schema's and valid there, ascending by
-/// their names.
+/// The cells of a page, given exactly its bytes: each valid in the schema, ascending by name.
 ///
-/// Refusals are those of the first bad field: `Short` where fewer bytes are left than a field has;
+/// Refusals are those of the first bad field: `Short` if fewer bytes are left than the field has;
 /// `BadMagic`; `BadVersion`; `SchemaDiffers`, once as many bytes are read as the schema has;
 /// `TooManyCells` above 256; for each cell those of [`read_cell`](crate::read_cell), and then
-/// `OutOfOrder` where its name is not greater than the one before; and last `TrailingBytes`.
-/// `Memory` comes only where the bytes are a page: where memory runs out, what is left is still
-/// checked. The cost is linear in the bytes.
+/// `OutOfOrder` if its name is not greater than the one before; and last `TrailingBytes`. `Memory`
+/// comes only if the bytes are a page: if memory runs out, the page is still checked to its end.
+/// The cost is linear in the bytes.
 pub fn decode(alloc: Global, bytes: &[u8], schema: &Schema) -> Result<Vec<Cell>, PageFault>
     // What is found is a page of the schema, and the bytes are its text.
     ensures found { IfOk result (λ cells. IsPage schema.now (map owned_cell cells.items)
         × IsPageText schema.now (map owned_cell cells.items) bytes.now) }
-    // Where the bytes are the text of a page, its cells are found, unless memory ran out.
+    // If the bytes are the text of a page, its cells are found, unless memory ran out.
     ensures only { (es : List NamedCell)
         → IsPage schema.now es → IsPageText schema.now es bytes.now
         → GivesUnless PageFault.Memory (λ cells. map owned_cell cells.items) result (Ok es) }
-    // Which fault is answered.
+    // Which fault is returned.
     ensures reads { ReadsPage schema.now bytes.now result }
     ensures cells { IfOk result (λ cells. All (λ c. IsCellOf schema.now (owned_cell c))
         cells.items) }

@@ -27,7 +27,7 @@ fn push_owned(bytes: &mut Vec<u8>, cell: &Cell) -> Result<(), AllocError>
 }
 
 /// The page of these cells as bytes, in the latest version: at most 256 cells of the schema,
-/// strictly ascending by their names. The cost is linear in the bytes.
+/// strictly ascending by name. The cost is linear in the bytes.
 #[tactic(auto, unfolding(crate::specs::Page::page_text))]
 pub fn encode(alloc: Global, schema: &Schema, cells: &[Cell]) -> Result<Vec<u8>, AllocError>
     requires { IsPage schema.now (map owned_cell cells.now) }

@@ -1,4 +1,4 @@
-//! What a page has before its cells.
+//! The head of a page, before its cells.
 ghost use Rattle.std.specs.Prelude.{◌≡◌, ◌++◌, OnOk};
 ghost use Rattle.rr_page.specs.Found.{Finds};
 ghost use Rattle.rr_page.specs.Page.{head_text};
@@ -15,8 +15,8 @@ use std::alloc::{AllocError, Global};
 /// The bytes that every page begins with.
 const MAGIC: [u8; 4] = *b"RRPG";
 
-/// The version that the first byte names, and what follows it. `Short` where there is none, and
-/// `BadVersion` for a byte that names no version.
+/// The version that the first byte names, and what follows it. `Short` if there is no byte, and
+/// `BadVersion` if it names no version.
 #[tactic(auto, unfolding(crate::specs::PageReading::version_at))]
 pub fn version_of(bytes: &[u8]) -> Result<(Version, &[u8]), PageFault>
     ensures { Finds (λ x. (x.0, x.1.now)) result (version_at bytes.now) }
@@ -29,7 +29,7 @@ pub fn version_of(bytes: &[u8]) -> Result<(Version, &[u8]), PageFault>
     }
 }
 
-/// The bytes that every page begins with, then its version, and what follows it.
+/// The version, after the bytes that every page begins with, and what follows it.
 #[tactic(auto, unfolding(crate::specs::PageReading::start_at))]
 fn start_of(bytes: &[u8]) -> Result<(Version, &[u8]), PageFault>
     ensures { Finds (λ x. (x.0, x.1.now)) result (start_at bytes.now) }
@@ -73,7 +73,7 @@ pub(crate) fn head_of<'a>(
     Ok((version, count, rest))
 }
 
-/// Adds what a page of the latest version has before its cells.
+/// Adds the head of a page of the latest version.
 #[tactic(auto, unfolding(crate::specs::Page::head_text))]
 pub(crate) fn push_head(
     alloc: Global,

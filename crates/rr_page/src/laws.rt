@@ -1,18 +1,19 @@
-//! The laws of the bytes of cells and pages, with no work to do: the functions have empty bodies.
+//! The laws of the bytes of cells and pages: functions with empty bodies, whose contracts state
+//! them.
 ghost use Rattle.rr_page.specs.Laws.{CellsAreTheirText, PagesAreTheirText, NoPageBeginsAnother, PagePrefixesAreShort};
 
-/// A cell is read exactly where the bytes begin with the text of a cell of the schema, and what
+/// A cell is read exactly when the bytes begin with the text of a cell of the schema, and what
 /// follows it is left.
 pub fn cells_are_their_text()
     ensures { CellsAreTheirText }
 {}
 
-/// A page is read exactly where the bytes are the text of a page of the schema.
+/// A page is read exactly when the bytes are the text of a page of the schema.
 pub fn pages_are_their_text()
     ensures { PagesAreTheirText }
 {}
 
-/// No page's bytes begin those of another page.
+/// No page's bytes are a prefix of another's.
 pub fn no_page_begins_another()
     ensures { NoPageBeginsAnother }
 {}

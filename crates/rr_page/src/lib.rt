@@ -2,14 +2,13 @@
 //!
 //! A cell has one spelling in each [`Version`] (`specs/CellText.antt`): the length of its key text
 //! and the text, its archive, slot and origin, and its contribution, each number big-endian and of
-//! a width of its own. It is written by [`cell_bytes`] and read by [`read_cell`], which takes
-//! nothing but valid cells of a schema and names the first fault from left to right
-//! (`specs/Reading.antt`).
+//! its own width. It is written by [`cell_bytes`] and read by [`read_cell`], which accepts only
+//! valid cells of a schema and names the first fault from left to right (`specs/Reading.antt`).
 //!
-//! A page (`specs/Page.antt`) has a head and at most 256 cells, strictly ascending by their names.
-//! It is written by [`encode`] and read by [`decode`], which takes nothing but pages of a schema
-//! and names the first fault as well (`specs/PageReading.antt`). [`laws`] says that what is read is
-//! what was written, and that no page begins another.
+//! A page (`specs/Page.antt`) has a head and at most 256 cells, strictly ascending by name. It is
+//! written by [`encode`] and read by [`decode`], which accepts only pages of a schema and names the
+//! first fault as well (`specs/PageReading.antt`). [`laws`] says that what is read is what was
+//! written, and that no page is a prefix of another.
 #![tactic(auto)]
 
 mod cells;

@@ -11,7 +11,7 @@ use rr_schema::{Addition, ArchiveSpec, Schema};
 /// How cells and pages are laid out as bytes.
 #[derive(Clone, Copy, Debug, PartialEq, Eq)]
 pub enum Version {
-    /// A mask has eight bytes. It is read, and no longer written.
+    /// A mask has eight bytes. It is read, but no longer written.
     One,
     /// A mask has sixteen bytes.
     Two,
@@ -21,7 +21,7 @@ pub enum Version {
 pub const LATEST: Version = Version::Two;
 
 impl Version {
-    /// The byte that a page has for it.
+    /// Its byte in a page.
     pub fn byte(self) -> u8
         ensures { result ≡ version_byte self }
     {
@@ -58,7 +58,7 @@ impl Version {
         self.has_masks_in(schema.archives())
     }
 
-    /// Whether it has one for each step of each archive that a schema had before an addition.
+    /// Whether a mask has a bit for each step of each archive that a schema had before an addition.
     pub fn had_masks_for(self, schema: &Schema, addition: Addition) -> bool
         requires { IsAddition schema.now addition }
         ensures { result ≡ has_masks_for self (older schema.now addition) }

@@ -17,7 +17,7 @@ pub const FIELDS_LEN: usize = 93;
 
 const _: () = prove!(FIELDS_LEN == 93);
 
-/// Adds how many samples a contribution has.
+/// Adds the version of a contribution, and the count and the sum of its samples.
 #[tactic(auto, unfolding(crate::specs::CellText::sums_text))]
 fn push_sums(bytes: &mut Vec<u8>, contribution: &Contribution) -> Result<(), AllocError>
     ensures { OnOk result (bytes.new.items ≡ bytes.old.items ++ sums_text contribution.now) }
@@ -28,7 +28,8 @@ fn push_sums(bytes: &mut Vec<u8>, contribution: &Contribution) -> Result<(), All
     Ok(())
 }
 
-/// Adds which values a contribution has, and at which places.
+/// Adds the least, the greatest and the last value of a contribution, with its last time, and its
+/// places.
 #[tactic(auto, unfolding(crate::specs::CellText::values_text))]
 fn push_values(bytes: &mut Vec<u8>, contribution: &Contribution) -> Result<(), AllocError>
     ensures { OnOk result

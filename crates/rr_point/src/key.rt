@@ -15,10 +15,10 @@ use rr_text::bytes::SPACE;
 use std::alloc::{AllocError, Global};
 
 impl<'a> Point<'a> {
-    /// Writes the key text of the series of one of the point's fields over `text`, whose memory is
-    /// used again: its names, unescaped, as [`SeriesKey::new`] writes them.
+    /// Replaces `text`, whose memory is reused, with the key text of the series of one of the
+    /// point's fields: its names, unescaped, as [`SeriesKey::new`] writes them.
     ///
-    /// Where the line has the measurement and the tags as a key text has them, the cost is that of
+    /// If the line has the measurement and the tags as a key text has them, the cost is that of
     /// copying them and of one pass over the field's key. Otherwise it is that of one pass over the
     /// names, of a copy of each and of sorting the tags.
     pub fn write_key(
@@ -59,7 +59,7 @@ impl<'a> Point<'a> {
     }
 }
 
-/// Writes what precedes a field, a space and the field over a text.
+/// Replaces a text with what precedes a field, a space and the field.
 fn write_parts(text: &mut Vec<u8>, prefix: &[u8], field: &[u8]) -> Result<(), AllocError>
     ensures { OnOk result (text.new.items ≡ prefix.now ++ SPACE ∷ field.now) }
 {

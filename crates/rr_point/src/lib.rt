@@ -2,7 +2,7 @@
 //!
 //! A [`Point`] has a measurement, [`Tags`] and [`Field`]s, which are slices of the line that says
 //! it, and perhaps a time. [`Point::write_key`] writes the key text of the series of one of its
-//! fields. Whoever keeps samples needs to know no more of lines than this.
+//! fields. Whoever keeps samples needs to know no more about lines than this.
 #![tactic(auto)]
 
 mod key;

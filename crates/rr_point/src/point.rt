@@ -19,15 +19,15 @@ pub struct Point<'a> {
     pub fields: Vec<Field<'a>>,
     /// Nanoseconds since the Unix epoch, if the line says when.
     pub time: Option<i64>,
-    /// What precedes the field in each key text, if the line has it as it stands.
+    /// What precedes the field in each key text, if the line has it verbatim.
     pub(crate) prefix: Option<&'a [u8]>,
 
     ghost prefix_of: { ForSome prefix (λ f. f.now ≡ prefix_text measurement.now (tags_view tags.items)) },
 }
 
 impl<'a> Point<'a> {
-    /// The point of these parts. Where the line has what precedes the field in each key text as it
-    /// stands, `prefix` is that, and keys are written from it.
+    /// The point of these parts. `prefix` is what precedes the field in each key text, if the line
+    /// has it verbatim; keys are then written from it.
     #[inline]
     pub fn new(
         measurement: &'a [u8],
@@ -52,7 +52,7 @@ impl<'a> Point<'a> {
     }
 }
 
-/// The tags of a point: a few are kept in place, and only more of them take memory.
+/// The tags of a point: a few are kept in place, and only more than these take memory.
 pub type Tags<'a> = SmallVec<Tag<'a>, 4>;
 
 /// A tag of a point. Its key and its value are names of the class [`Other`](rr_key::Class::Other),

@@ -55,8 +55,8 @@ impl Ending {
         }
     }
 
-    /// Prints on standard error why the order isn't obeyed; nothing if it is, or if what it ended on
-    /// was told already.
+    /// Prints on standard error why the order isn't obeyed; nothing if it is, or if what it ended
+    /// on was told already.
     pub fn print(&self, rt: &impl Eprint) -> io::Result<()> {
         match self {
             Ending::Done | Ending::LinesRefused | Ending::DirectoryRefused | Ending::Stopped => {

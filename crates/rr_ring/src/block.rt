@@ -25,7 +25,7 @@ pub(crate) struct Block {
 }
 
 impl Block {
-    /// A block with no row made. It takes no memory yet.
+    /// A block with no rows made. It takes no memory yet.
     pub(crate) fn new(alloc: Global) -> Block
         ensures { result.rows.items ≡ [] }
     {
@@ -35,7 +35,7 @@ impl Block {
         }
     }
 
-    /// The entries of a slot in the row of a number.
+    /// The entries of a slot in the row with this number.
     pub(crate) fn entries(&self, number: usize, slot: i64) -> &[Entry]
         ensures { result.now ≡ block_items self.now number slot }
     {
@@ -52,7 +52,7 @@ impl Block {
         self.rows.len()
     }
 
-    /// Makes the rows up to a number, in a block that is to have `len` rows. It takes memory as it
+    /// Makes the rows up to a number, in a block that is to have `len` rows. Memory is taken as it
     /// fills, for 4, 8, 16, 32 and 64 rows.
     fn make_rows(&mut self, number: usize, len: usize) -> Result<(), AllocError>
         ensures same { block_items self.new ≡ block_items self.old }
@@ -72,7 +72,7 @@ impl Block {
         Ok(())
     }
 
-    /// Makes room for an entry of an origin in a slot, in the row of a number.
+    /// Makes room for an entry of an origin in a slot, in the row with this number.
     pub(crate) fn make_room(
         &mut self,
         len: usize,
@@ -88,8 +88,8 @@ impl Block {
         self.rows[number].make_room(self.alloc, slot, origin)
     }
 
-    /// Changes the entry of an origin in a slot, in the row of a number, and says whether it is a
-    /// new one.
+    /// Changes the entry of an origin in a slot, in the row with this number, and returns whether
+    /// it is new.
     pub(crate) fn change(
         &mut self,
         len: usize,

@@ -5,7 +5,7 @@ ghost use Rattle.rr_ring.specs.Positions.{position_of};
 use crate::block::{BLOCK_ROWS, Block};
 use std::alloc::Global;
 
-/// Stored rows by position: that of a slot is the slot modulo the rows, rounded to the floor.
+/// Stored rows by position: a slot's position is the slot modulo the rows, by floor division.
 #[derive(Drop)]
 pub(crate) struct Ring {
     pub(crate) alloc: Global,

@@ -19,9 +19,9 @@ use std::alloc::{AllocError, Global};
 /// The cells of one archive of one series, as a ring of rows.
 ///
 /// `row` and `cell_count` take constant time. So do `ready`, `put` and `join_cell` in a row of one
-/// origin that is not after the newest slot, and they take no memory where the block of the row is
-/// made; in a row of more origins they are linear in its entries, and after the newest slot in the
-/// slots that are passed, at most the rows. `cell_at` is linear in the rows before the cell, and
+/// origin that is not after the newest slot, and they take no memory if the block of the row is
+/// made; in a row of several origins they are linear in its entries, and after the newest slot in
+/// the slots passed, at most the rows. `cell_at` is linear in the rows before the cell, and
 /// `next_cell` in those up to the cell.
 #[derive(Drop)]
 pub struct RingArchive {
@@ -31,7 +31,7 @@ pub struct RingArchive {
     ghost held: { IsArchiveState newest count ring } by { Prim.hlevel (props, coded_rows) },
 }
 
-/// How many of `rows` rows are past the horizon as the newest slot moves on to a later one.
+/// How many of `rows` rows fall past the horizon as the newest slot moves on to a later one.
 fn rows_passed(newest: i64, top: i64, rows: u32) -> u32
     requires { AreInOrder newest top }
     ensures at_most { result ≤ rows }
@@ -65,7 +65,7 @@ impl RingArchive {
         dead
     }
 
-    /// Changes the cell of a slot and an origin. A change that is past the horizon is passed over.
+    /// Changes the cell of a slot and an origin. A change past the horizon is skipped.
     fn change_cell(&mut self, slot: i64, origin: Origin, change: &Change) -> Result<(), AllocError>
         requires { CanTake (cells_in self.old.newest self.old.ring) (cell_slot slot origin)
             change.now }

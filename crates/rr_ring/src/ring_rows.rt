@@ -1,4 +1,4 @@
-//! What is stored in a ring: read, changed and copied.
+//! Reading, changing and copying what is stored in a ring.
 ghost use Rattle.std.specs.Prelude.{◌≡◌, ◌<◌, ◌≤◌, ◌+◌, ◌/◌, ◌+ℤ◌, ℕ, ℤ, pos, [], length, is_none, slice_get, IsTrue, IsOk, OnOk, OnErr, IfOk};
 ghost use Rattle.rr_archive.specs.Row.{entry_at};
 ghost use Rattle.rr_archive.specs.Changes.{Fits, entry_after};
@@ -48,9 +48,9 @@ impl Ring {
         }
     }
 
-    /// How many slots on from one the next is to look at, at most `most`: nothing is stored of
-    /// those between. The rows of a block that aren't made, and a block that isn't, are passed over
-    /// in one step.
+    /// How many slots ahead of one the next to look at is, at most `most`: nothing is stored of
+    /// those between. The rows of a block that aren't made, and a block that isn't, are skipped in
+    /// one step.
     pub(crate) fn slots_on(&self, slot: i64, most: u32) -> u32
         ensures { PassesOver 1 most (λ i. ring_row self.now (slot +ℤ pos i)) result }
     {
@@ -96,8 +96,8 @@ impl Ring {
         self.blocks[position / BLOCK_ROWS].make_room(len, position % BLOCK_ROWS, slot, origin)
     }
 
-    /// Changes the entry of an origin in a slot, and says whether it is a new one. What is stored
-    /// of another slot with the same position is written over.
+    /// Changes the entry of an origin in a slot, and returns whether it is new. What is stored of
+    /// another slot at the same position is overwritten.
     pub(crate) fn change(
         &mut self,
         slot: i64,

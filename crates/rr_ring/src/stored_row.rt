@@ -12,7 +12,7 @@ use rr_schema::Origin;
 use std::alloc::{AllocError, Global};
 use std::mem::size_of;
 
-/// A slot and its entries, until another slot of the same position is written.
+/// A slot and its entries, until another slot at the same position is written.
 #[derive(Drop)]
 pub(crate) struct StoredRow {
     slot: i64,
@@ -32,7 +32,7 @@ impl StoredRow {
         }
     }
 
-    /// The entries of a slot; none, where the row is that of another.
+    /// The entries of a slot; none if the row is another slot's.
     pub(crate) fn entries(&self, slot: i64) -> &[Entry]
         ensures { result.now ≡ items_at (Some self.now) slot }
     {
@@ -43,8 +43,8 @@ impl StoredRow {
         }
     }
 
-    /// Changes the entry of an origin in a slot, and says whether it is a new one. The row of
-    /// another slot is written over.
+    /// Changes the entry of an origin in a slot, and returns whether it is new. The row of another
+    /// slot is overwritten.
     pub(crate) fn change(
         &mut self,
         alloc: Global,

@@ -1,11 +1,11 @@
-//! Which archive a schema has more than another.
+//! Which archive a schema adds to another.
 ghost use Rattle.std.specs.Prelude.{◌≡◌, ◌≢◌, ◌↔◌, ◌+◌, ◌<◌, length, take, IsTrue, IfOk, IfSome, IfNone, ℕ};
 ghost use Rattle.rr_schema.specs.Added.{without};
 
 use crate::archive::ArchiveSpec;
 use std::alloc::{AllocError, Global};
 
-/// What a schema has more than an older one of the same step.
+/// What a schema adds to an older one of the same step.
 #[derive(Clone, Copy, Debug, PartialEq, Eq)]
 pub enum Addition {
     /// Nothing: the two are the same.
@@ -14,7 +14,7 @@ pub enum Addition {
     Archive(u8),
 }
 
-/// Whether the others are the archives without the one that has a number.
+/// Whether the others are the archives without the one with this number.
 fn are_without(number: usize, archives: &[ArchiveSpec], others: &[ArchiveSpec]) -> bool
     requires { number < length archives.now }
     ensures { IsTrue result ↔ (others.now ≡ without number archives.now) }
@@ -26,7 +26,7 @@ fn are_without(number: usize, archives: &[ArchiveSpec], others: &[ArchiveSpec]) 
     prefix == &archives[..number] && rest == archives.split_at(number + 1).1
 }
 
-/// The archives without the one that has a number.
+/// The archives without the one with this number.
 pub(crate) fn archives_without(
     alloc: Global,
     number: usize,
@@ -41,7 +41,7 @@ pub(crate) fn archives_without(
     Ok(others)
 }
 
-/// The number of an archive without which the archives are the others, if there is one.
+/// The number of an archive without which the archives equal the others, if there is one.
 pub(crate) fn number_of_added(archives: &[ArchiveSpec], others: &[ArchiveSpec]) -> Option<usize>
     ensures in_archives { IfSome result (λ i. i < length archives.now) }
     ensures others { IfSome result (λ i. others.now ≡ without i archives.now) }

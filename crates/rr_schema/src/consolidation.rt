@@ -1,4 +1,4 @@
-//! What a fetch makes of the samples of a row.
+//! How a fetch consolidates the samples of a row.
 
 /// A consolidation function of rrdcreate (`CF`).
 #[derive(Clone, Copy, Debug, PartialEq, Eq)]

@@ -41,13 +41,13 @@ pub enum SchemaFault {
     BadToml,
     /// A key is missing.
     MissingField,
-    /// The value of a key is of another kind.
+    /// The value of a key is of the wrong kind.
     WrongKind,
     /// The step is 0 or above a day.
     BadStep,
     /// There is no archive.
     NoArchive,
-    /// There are more archives than a schema has.
+    /// There are more archives than a schema may have.
     TooManyArchives,
     /// The steps of a row of an archive are 0 or too many.
     BadSteps,

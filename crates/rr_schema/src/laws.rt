@@ -1,4 +1,4 @@
-//! Laws of schemas, with no work to do: each function has an empty body.
+//! The laws of schemas: functions with empty bodies, whose contracts state them.
 ghost use Rattle.std.specs.Prelude.{ℕ};
 ghost use Rattle.rr_schema.specs.Schema.{Layout, IsLayout, choice};
 ghost use Rattle.rr_schema.specs.Choice.{IsChoice};
@@ -17,8 +17,8 @@ pub fn choice_is_the_rule()
         → IsChoice s resolution (choice s resolution) }
 {}
 
-/// At most one archive of a schema is the one that it has more than another, and without it a
-/// schema is within the limits.
+/// At most one archive of a schema is the one that it adds to another, and without it a schema is
+/// within the limits.
 pub fn one_archive_is_added()
     ensures one { OneIsAdded }
     ensures less { OneLessIsLayout }

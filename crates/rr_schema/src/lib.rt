@@ -6,7 +6,7 @@
 //! archive answers a fetch ([`Schema::choose`]).
 //!
 //! Times are nanoseconds since the Unix epoch; steps, spans and resolutions are seconds. Divisions
-//! round to the floor, so times before the epoch fall into slots as those after it do.
+//! round down, so times before the epoch fall into slots as those after it do.
 #![tactic(auto)]
 
 mod added;

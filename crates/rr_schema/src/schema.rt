@@ -20,7 +20,7 @@ use rr_text::limits::{MAX_ARCHIVES, MAX_ROWS, MAX_STEP, MAX_STEPS, MAX_XFF_DEN, 
 use std::alloc::{AllocError, Global};
 use std::marker::Model;
 
-/// How many bytes the step and the number of archives have.
+/// How many bytes the step and the number of archives take.
 const HEAD_LEN: usize = 5;
 
 /// A step, and the archives from the finest on, within the limits of the store.
@@ -85,7 +85,7 @@ fn check(step: u32, archives: &[ArchiveSpec]) -> Result<(), SchemaFault>
     check_archives(archives)
 }
 
-/// `floor(time / seconds)`, of a time in nanoseconds.
+/// `floor(time / seconds)`, for a time in nanoseconds.
 fn whole_spans(time: i64, seconds: u32) -> i64
     requires { 0 < seconds }
     ensures { result ≡ int_div_euclid time (pos (seconds * 1_000_000_000)) }
@@ -93,7 +93,7 @@ fn whole_spans(time: i64, seconds: u32) -> i64
     time.div_euclid(i64::from(seconds) * NANOSECONDS)
 }
 
-/// What is left of the whole steps since the epoch once they are counted in rows.
+/// The whole steps since the epoch, modulo the steps of a row.
 fn left_over(time: i64, step: u32, steps: u32) -> u32
     requires some_step { 0 < step }
     requires some_steps { 0 < steps }
@@ -106,7 +106,7 @@ fn left_over(time: i64, step: u32, steps: u32) -> u32
     whole_steps.rem_euclid(i64::from(steps)) as u32
 }
 
-/// The number of the last of the archives whose span is not above the resolution, else 0.
+/// The number of the last archive whose span is not above the resolution, else 0.
 fn last_within(step: u32, resolution: u64, archives: &[ArchiveSpec]) -> u8
     requires { length archives.now ≤ MAX_ARCHIVES }
     ensures { result ≡ last_within step resolution 0 0 archives.now }
@@ -147,7 +147,7 @@ impl Schema {
         self.step
     }
 
-    /// The archives, from the finest on. A caller learns here too that the schema is within its
+    /// The archives, from the finest on. The contract also says that the schema is within its
     /// limits.
     pub fn archives(&self) -> &[ArchiveSpec]
         ensures value { result.now ≡ self.now.archives }
@@ -168,9 +168,9 @@ impl Schema {
         })
     }
 
-    /// The number of the archive that this schema has more than an older one, where it has the step
-    /// and the archives of the older one, in their order, and one more. No memory is taken; the
-    /// cost is quadratic in the archives, of which there are few.
+    /// The number of the archive that this schema adds to an older one, if it has the step and the
+    /// archives of the older one, in their order, and one more. No memory is taken; the cost is
+    /// quadratic in the archives, of which there are few.
     pub fn added(&self, old: &Schema) -> Option<u8>
         ensures added { IfSome result (λ i. HasAdded i self.now old.now) }
         ensures none { IfNone result ((i : ℕ) → HasAdded i self.now old.now → ⊥) }
@@ -181,7 +181,7 @@ impl Schema {
         number_of_added(&self.archives, &old.archives).map(|number: usize| number as u8)
     }
 
-    /// The schema without the archive that has a number, of a schema that has others. The cost is
+    /// The schema without the archive with this number, which must not be its only one. The cost is
     /// linear in the archives.
     pub fn without(&self, alloc: Global, number: u8) -> Result<Schema, AllocError>
         requires is_there { number < length self.now.archives }
@@ -213,7 +213,7 @@ impl Schema {
         Ok(bytes)
     }
 
-    /// Whether these are the bytes. No memory is taken; the cost is linear in the archives.
+    /// Whether these are its bytes. No memory is taken; the cost is linear in the archives.
     #[tactic(auto, unfolding(crate::specs::SchemaBytes::schema_bytes))]
     pub fn has_bytes(&self, bytes: &[u8]) -> bool
         ensures { result ≡ pointwise nat_eq bytes.now (schema_bytes self.now) }
@@ -239,14 +239,14 @@ impl Schema {
         }
     }
 
-    /// How many bytes these are.
+    /// How many bytes it takes.
     pub fn byte_len(&self) -> usize
         ensures { result ≡ length (schema_bytes self.now) }
     {
         HEAD_LEN + ARCHIVE_LEN * self.archives.len()
     }
 
-    /// The archive with a number, from 0.
+    /// The archive with this number, from 0.
     pub fn archive(&self, number: u8) -> ArchiveSpec
         requires { number < length self.now.archives }
         ensures value { result ≡ archive_at self.now number }
@@ -292,8 +292,8 @@ impl Schema {
         u64::from(unknown) * u64::from(archive.den) <= most
     }
 
-    /// The archive that answers a fetch of a resolution in seconds: the one with the greatest span
-    /// that is not above it, else the one with the least span. The cost is linear in the archives.
+    /// The archive that answers a fetch at a resolution in seconds: the one with the greatest span
+    /// not above it, else the one with the least span. The cost is linear in the archives.
     pub fn choose(&self, resolution: u64) -> u8
         ensures value { result ≡ choice self.now resolution }
         ensures rule { IsChoice self.now resolution result }

@@ -9,7 +9,7 @@ ghost use Rattle.rr_schema.specs.SchemaBytes.{archive_bytes, IsAfter};
 use crate::archive::ArchiveSpec;
 use std::alloc::AllocError;
 
-/// Archives that are within their limits, each by itself.
+/// Archives, each of which is within its limits.
 #[derive(Clone, Copy)]
 pub(crate) struct Archives<'a> {
     pub(crate) items: &'a [ArchiveSpec],
@@ -94,7 +94,7 @@ pub(crate) fn are_archives(archives: Archives<'_>, bytes: &[u8]) -> bool
     }
 }
 
-/// Whether the bytes are those of archives without the one that has a number. No memory is taken.
+/// Whether the bytes are those of archives without the one with this number. No memory is taken.
 pub(crate) fn are_archives_without(number: usize, archives: Archives<'_>, bytes: &[u8]) -> bool
     requires { number < length archives.items.now }
     ensures { IsTrue result ↔ (bytes.now

@@ -1,5 +1,5 @@
 //! The bytes that divide lines, keys, scripts and requests, and texts that occur twice. The bytes
-//! are pinned below as numbers, as ASCII has them.
+//! are pinned below to their ASCII numbers.
 
 ghost use Rattle.std.specs.Prelude.{◌≡◌, ℕ, List, map, option_map};
 ghost use Rattle.rr_text.specs.Bytes.{begins, strip, is_among, has_repeat};
@@ -44,14 +44,14 @@ const _: () = prove!(HASH == 35);
 
 const _: () = prove!(MINUS == 45);
 
-/// Whether a byte is at the beginning of the text.
+/// Whether the text begins with a byte.
 pub fn begins(byte: u8, text: &[u8]) -> bool
     ensures { result ≡ begins byte text.now }
 {
     matches!(text, [first, ..] if *first == byte)
 }
 
-/// The text after a byte at its beginning.
+/// The text after a byte, if it begins with that byte.
 pub fn strip(byte: u8, text: &[u8]) -> Option<&[u8]>
     ensures { option_map (λ rest. rest.now) result ≡ strip byte text.now }
 {
@@ -78,7 +78,7 @@ impl Keyed for (&[u8], &[u8]) {
     }
 }
 
-/// Whether a key is among those of entries.
+/// Whether a key is among the keys of entries.
 fn is_among<T: Keyed>(key: &[u8], entries: &[T]) -> bool
     ensures { result ≡ is_among key.now (map T.key_of entries.now) }
 {

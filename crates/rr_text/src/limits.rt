@@ -1,5 +1,5 @@
-//! The limits of the store, each named here alone. The numbers are pinned at the end, so that none
-//! changes by an edit of one place.
+//! The limits of the store, each named only here. The numbers are pinned at the end, so that an
+//! edit in one place changes none.
 
 /// The greatest number that a sample of one origin can have: 2^40.
 pub const MAX_NUMBER: u64 = 1_099_511_627_776;
@@ -44,14 +44,14 @@ pub const MAX_FETCH_ROWS: u32 = 100_000;
 /// The most reads of one connection or input.
 pub const MAX_READS: u32 = 4_294_967_295;
 
-/// The readers of a node, each with an address of its own.
+/// The most readers of a node, each with its own address.
 pub const MAX_READERS: usize = 16;
 
 /// The most seconds for which a connection may move no byte: one day.
 pub const MAX_IDLE: u64 = 86_400;
 
-/// The last second, either side of the Unix epoch, that a fetch may name: the first one past every
-/// time of a sample.
+/// The last second, either side of the Unix epoch, that a fetch may name: the first one past the
+/// time of every sample.
 pub const MAX_SECOND: u64 = 9_223_372_037;
 
 /// The nanoseconds of a second.

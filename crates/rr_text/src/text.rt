@@ -1,4 +1,4 @@
-//! The parts of lines, scripts and requests: the cut of a text at a byte, and decimal numbers.
+//! The parts of lines, scripts and requests: cutting a text at a byte, and decimal numbers.
 
 ghost use Rattle.std.specs.Prelude.{◌≡◌, option_map};
 ghost use Rattle.std.specs.Char.{is_ascii_digit};
@@ -32,7 +32,7 @@ fn has_only_digits(text: &[u8]) -> bool
     text.iter().all(|byte| byte.is_ascii_digit())
 }
 
-/// The number that decimal digits write, leading zeros allowed, if it is in `u64`. One pass.
+/// The number that decimal digits write, leading zeros allowed, if it fits in `u64`. One pass.
 pub fn number(text: &[u8]) -> Option<u64>
     ensures { result ≡ number_at text.now }
 {
@@ -48,10 +48,10 @@ pub fn number(text: &[u8]) -> Option<u64>
     Some(number)
 }
 
-/// A number below this one and any digit after it are in `u64`.
+/// A number below this one fits in `u64` with any digit after it.
 const FITS_A_DIGIT: u64 = u64::MAX / 10;
 
-/// The number with one more digit, if the byte is a digit and the number is in `u64`.
+/// The number with one more digit, if the byte is a digit and the result fits in `u64`.
 fn with_digit(number: u64, digit: u8) -> Option<u64>
     ensures { result ≡ with_digit number digit }
 {
@@ -65,7 +65,7 @@ fn with_digit(number: u64, digit: u8) -> Option<u64>
     number.checked_mul(10)?.checked_add(value)
 }
 
-/// The number that decimal digits after an optional minus write, if it is in `i64`. One pass.
+/// The number that decimal digits after an optional minus write, if it fits in `i64`. One pass.
 pub fn integer(text: &[u8]) -> Option<i64>
     ensures { result ≡ integer_at text.now }
 {

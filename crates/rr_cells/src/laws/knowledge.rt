@@ -1,7 +1,7 @@
-//! What nodes know, and the rows and the text that are answered from it.
+//! What nodes know, and the rows and texts answered from it.
 ghost use Rattle.rr_cells.specs.KnowledgeLaws.{UnionIsCommutative, UnionIsAssociative, UnionIsIdempotent, NothingIsClosed, WriterStaysClosed, WriterHoldsOwn, OthersStayClosed, OthersHoldOwn, UnionIsClosed, UnionHoldsOwn, DeadStayDead, WholeCellsAreClosed, LiveIsClosed, WholeCellsAreLive, LiveIsLive, NamesAreOfTheLive, DifferenceBringsAll, RowsAreOfTheLive, FetchesAreOfTheLive, LiveAnswersAlike};
 
-/// What is known after deliveries: in any order, in any grouping, any number of times.
+/// What is known after deliveries is the same in any order, in any grouping, any number of times.
 pub fn union_is_a_join()
     ensures commutative { UnionIsCommutative }
     ensures associative { UnionIsAssociative }
@@ -9,7 +9,7 @@ pub fn union_is_a_join()
 {}
 
 /// What is closed stays so: at the writer of a sample, elsewhere, and when two are united. Each
-/// goes on to hold all of its own origin.
+/// still holds all of its own origin.
 pub fn knowledge_stays_closed()
     ensures nothing { NothingIsClosed }
     ensures writer { WriterStaysClosed }
@@ -33,14 +33,13 @@ pub fn whole_cells_are_closed()
     ensures live_live { LiveIsLive }
 {}
 
-/// To give whole cells is to give all that is live; of the cells, those of the difference are
-/// enough.
+/// Giving whole cells gives all that is live; of the cells, those of the difference are enough.
 pub fn whole_cells_bring_all()
     ensures names { NamesAreOfTheLive }
     ensures difference { DifferenceBringsAll }
 {}
 
-/// Two that know the same live marks answer each fetch alike.
+/// Two that know the same live marks give the same answer to each fetch.
 pub fn fetches_are_of_the_live()
     ensures rows { RowsAreOfTheLive }
     ensures texts { FetchesAreOfTheLive }

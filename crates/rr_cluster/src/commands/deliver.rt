@@ -34,8 +34,8 @@ pub(crate) fn deliver<A: Cells>(
     }
 }
 
-/// Joins the cells of the page of these bytes into a replica. A script has only pages that its own
-/// nodes made, so that the bytes are those of a page of the replica's schema.
+/// Joins the cells of the page with these bytes into a replica. A script has only pages that its
+/// own nodes made, so the bytes are those of a page of the replica's schema.
 fn join_page<A: Cells>(alloc: Global, replica: &mut Replica<A>, page: &[u8]) -> Result<(), Stop>
     requires { (cells : Cells) × HasPageText replica.old.schema cells page.now }
     ensures { (cells : Cells) → HasPageText replica.old.schema cells page.now

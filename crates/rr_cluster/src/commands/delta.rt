@@ -20,7 +20,7 @@ use rr_replica::Replica;
 use std::alloc::{AllocError, Global};
 
 /// Makes a page of the cells that one node has and another lacks or has with a smaller version,
-/// from an offset on, as many as there are up to a count. A page of that name is replaced.
+/// from an offset on, up to a count. A page of that name is replaced.
 pub(crate) fn add_delta<A: Cells>(
     cluster: &mut Cluster<A>,
     name: &[u8],
@@ -47,7 +47,7 @@ pub(crate) fn add_delta<A: Cells>(
 }
 
 /// The bytes of a page of the cells that one replica has and another lacks or has with a smaller
-/// version, from an offset on, as many as there are up to a count.
+/// version, from an offset on, up to a count.
 fn newer_page<A: Cells>(
     alloc: Global,
     giver: &Replica<A>,

@@ -1,4 +1,4 @@
-//! `load NAME NODE ORIGIN`: makes a snapshot a node, under a new origin.
+//! `load NAME NODE ORIGIN`: makes a node from a snapshot, under a new origin.
 
 ghost use Rattle.rr_cells.specs.Cells.{Cells};
 ghost use Rattle.rr_schema.specs.Schema.{IsLayout};
@@ -19,8 +19,8 @@ use rr_schema::{Origin, Schema};
 use rr_snapshot::{LoadFault, load};
 use std::alloc::Global;
 
-/// Makes a snapshot a node, under an origin that was not used. A node of that name is replaced, and
-/// its origin stays used.
+/// Makes a node from a snapshot, under an unused origin. A node of that name is replaced, and its
+/// origin stays used.
 pub(crate) fn load_node<A: Cells>(
     cluster: &mut Cluster<A>,
     name: &[u8],
@@ -42,8 +42,8 @@ pub(crate) fn load_node<A: Cells>(
     cluster.put_node(node, replica)
 }
 
-/// The replica of the snapshot of these bytes, under a new origin. A script has only snapshots that
-/// its own nodes made, of its schema or of one before an upgrade.
+/// The replica of the snapshot with these bytes, under a new origin. A script has only snapshots
+/// that its own nodes made, of its schema or of one before an upgrade.
 fn loaded<A: Cells>(
     alloc: Global,
     snapshot: &[u8],
@@ -55,7 +55,7 @@ fn loaded<A: Cells>(
     ensures { (x : Snapshot Cells) → HasSnapshotText x snapshot.now
         → Gives node_in result (loaded_node cell_model schema.now x origin) }
 {
-    // Bytes in memory are always read, and so no reader fails here.
+    // Bytes in memory can always be read, so no reader fails here.
     match load(alloc, &mut Counted::new(snapshot), schema, origin) {
         Ok(replica) => Ok(replica),
         Err(LoadFault::SchemaDiffers) => Err(Stop::Refused(CommandFault::SchemaDiffers)),

@@ -11,7 +11,7 @@ use crate::stop::Stop;
 use crate::words::{lead_of, moment_of};
 use rr_archive::Cells;
 
-/// Sets the clock, and the lead where one is given.
+/// Sets the clock, and the lead if one is given.
 pub(crate) fn set_clock<A: Cells>(
     cluster: &mut Cluster<A>,
     time: &[u8],

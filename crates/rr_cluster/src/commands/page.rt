@@ -17,8 +17,8 @@ use rr_page::encode;
 use rr_replica::Replica;
 use std::alloc::{AllocError, Global};
 
-/// Makes a page of a node's cells from an offset on, as many as there are up to a count. A page of
-/// that name is replaced.
+/// Makes a page of a node's cells from an offset on, up to a count. A page of that name is
+/// replaced.
 pub(crate) fn add_page<A: Cells>(
     cluster: &mut Cluster<A>,
     name: &[u8],
@@ -41,8 +41,7 @@ pub(crate) fn add_page<A: Cells>(
     cluster.put_page(name, page)
 }
 
-/// The offset of a page's first cell, and the most cells: `BadNumber` unless both are in their
-/// range.
+/// The offset of a page's first cell, and the most cells: `BadNumber` unless both are in range.
 pub(crate) fn place_and_count(from: &[u8], count: &[u8]) -> Result<(usize, usize), CommandFault>
     ensures value { result ≡ place_and_count from.now count.now }
     ensures fits { IfOk result (λ asked. asked.1 ≤ MAX_PAGE_CELLS) }
@@ -52,7 +51,7 @@ pub(crate) fn place_and_count(from: &[u8], count: &[u8]) -> Result<(usize, usize
     Ok((from as usize, count))
 }
 
-/// The bytes of a page of a replica's cells from an offset on, as many as there are up to a count.
+/// The bytes of a page of a replica's cells from an offset on, up to a count.
 fn page_of<A: Cells>(
     alloc: Global,
     replica: &Replica<A>,

@@ -15,7 +15,7 @@ use crate::words::{archive_of, number_u32};
 use rr_schema::{ArchiveSpec, Schema};
 use std::alloc::{AllocError, Global};
 
-/// The first of the words that are left, if there is one, and the rest.
+/// The first of the remaining words, if there is one, and the rest.
 fn next_word(words: Option<&[u8]>) -> Option<(&[u8], Option<&[u8]>)>
     ensures word { MatchOption result (archive_words words.entry ≡ [])
         (λ next. archive_words words.entry ≡ next.0.now ∷ archive_words next.1) }

@@ -18,7 +18,7 @@ use rr_schema::{ArchiveSpec, Schema};
 use std::alloc::{AllocError, Global};
 use std::collections::BTreeMap;
 
-/// Adds an archive to the schema. All nodes and pages are gone after it, and their names are free;
+/// Adds an archive to the schema. All nodes and pages are then gone, and their names free;
 /// snapshots stay, and origins stay used.
 pub(crate) fn upgrade<A: Cells>(cluster: &mut Cluster<A>, archive: &[u8]) -> Result<(), Stop>
     ensures { (m : State Cells) → Represents cluster.old m
@@ -33,7 +33,7 @@ pub(crate) fn upgrade<A: Cells>(cluster: &mut Cluster<A>, archive: &[u8]) -> Res
     Ok(())
 }
 
-/// The schema with an archive more.
+/// The schema with one more archive.
 fn schema_with(alloc: Global, schema: &Schema, archive: &ArchiveSpec) -> Result<Schema, Stop>
     ensures value { Gives (λ s. s) result (layout_with schema.now archive.now) }
     ensures layout { IfOk result IsLayout }
@@ -58,7 +58,7 @@ fn archives_with(
     Ok(more)
 }
 
-/// How many archives stand before the first that has more steps than one.
+/// How many archives come before the first that has more steps than this one.
 fn place_for(archive: &ArchiveSpec, archives: &[ArchiveSpec]) -> usize
     ensures value { result ≡ place_for archive.now archives.now }
     ensures within { result ≤ length archives.now }

@@ -34,7 +34,7 @@ pub(crate) fn write_line<A: Cells>(
     }
 }
 
-/// Writes the samples of a line at a moment, or none: a line that is refused changes nothing.
+/// Writes the samples of a line at a moment, or none: a refused line changes nothing.
 fn write_to<A: Cells>(
     alloc: Global,
     replica: &mut Replica<A>,

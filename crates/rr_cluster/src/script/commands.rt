@@ -29,7 +29,7 @@ pub(crate) fn command_of(line: &[u8]) -> Option<Event<'_>>
     }
 }
 
-/// The command of its name and the words after it, if it is one that copies or prints what nodes
+/// The command with this name and the words after it, if it is one that copies or prints what nodes
 /// have.
 fn copying_command<'a>(name: &[u8], words: &'a [u8]) -> Option<Event<'a>>
     ensures { option_map view_of result ≡ copying_command name.now (words_of words.now) }

@@ -9,7 +9,7 @@ pub enum Event<'a> {
     /// `schema STEP S:R:N/D ..`: sets the schema, once.
     Schema {
         step: &'a [u8],
-        /// The words after the step, with a space between two, if there are any.
+        /// The words after the step, separated by single spaces, if there are any.
         archives: Option<&'a [u8]>,
     },
     /// `upgrade S:R:N/D`: adds an archive to the schema; nodes and pages are gone, snapshots stay.
@@ -60,7 +60,7 @@ pub enum Event<'a> {
         name: &'a [u8],
         node: &'a [u8],
     },
-    /// `load NAME NODE ORIGIN`: makes a snapshot a node, under a new origin.
+    /// `load NAME NODE ORIGIN`: makes a node from a snapshot, under a new origin.
     Load {
         name: &'a [u8],
         node: &'a [u8],

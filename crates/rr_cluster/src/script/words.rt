@@ -1,4 +1,4 @@
-//! A text, cut into its lines and words.
+//! A text, split into lines and words.
 
 ghost use Rattle.std.specs.Prelude.{◌≡◌, ◌<◌, length, false, [], ◌∷◌, MatchOption, IfSome};
 ghost use Rattle.rr_cluster.specs.ScriptWords.{are_three, parts_of, words_of};
