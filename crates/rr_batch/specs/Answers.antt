@@ -1,4 +1,4 @@
--- What the items of a batch are answered, by whether the batch is saved.
+-- How the items of a batch are answered, by whether the batch is saved.
 use Rattle.std.specs.Prelude.{ℕ, Bool, true, false, not, List, ◌++◌, Option, Some, None}
 use Rattle.rr_connection.specs.Answer.{ReplyView as ResponseView, reply_view as response_view}
 use Rattle.rr_node.specs.declared.report.Report.{Report}
@@ -12,8 +12,8 @@ use Rattle.rr_batch.specs.declared.pending.Pending.{Pending}
 use Rattle.rr_batch.specs.declared.pending.Pending.TheVariants as pending
 use Rattle.rr_batch.specs.declared.pending.Waiting.{Waiting}
 
--- what an item came to: a reply that is decided, the refusals and the report of a body, those of a piece of lines,
--- where a report comes with the last one, or that its connection is closed
+-- what an item came to: a decided reply; the refusals and the report of a body; those of a piece of lines, where the
+-- report comes with the last piece; or that its connection is closed
 pub data PendingView : Type 0 where
   decided : (reply : ReplyView) → PendingView
   body : (refusals : List ℕ) (report : Report) → PendingView
@@ -49,7 +49,7 @@ abbrev pub body_outcome : List ℕ → Bool → List ℕ → Report → OutcomeV
 body_outcome product is_saved refusals report =
     response (response_of product (write_reply_of (not is_saved) refusals (Some (report_line report))))
 
--- refusals are answered as they come; the report, only if all its lines are saved, and else the connection is closed
+-- refusals are answered as they come; the report only if all its lines are saved, or else the connection is closed
 abbrev pub lines_outcome : Bool → List ℕ → Option Report → OutcomeView
 lines_outcome is_saved refusals None = text refusals
 lines_outcome true refusals (Some report) = text (refusals ++ report_text report)

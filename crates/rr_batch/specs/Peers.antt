@@ -20,7 +20,7 @@ joined_if k c = if is_cell_of k.schema (owned_cell c) then with_pending k (Join 
 abbrev pub joined_to : KeeperState → List Cell → KeeperState
 joined_to k cells = fold joined_if k cells
 
--- where all are of the schema, all are joined
+-- if all are of the schema, all are joined
 abbrev pub CellsOfTheSchemaAreJoined : Type 0
 CellsOfTheSchemaAreJoined =
     (k : KeeperState) (cells : List Cell) → AllByRecursion (λ c. IsCellOf k.schema (owned_cell c)) cells

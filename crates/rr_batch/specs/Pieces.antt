@@ -19,12 +19,12 @@ use Rattle.rr_batch.specs.Taking.{Change, rules_in}
 abbrev pub stream_of : Writer → ℕ → Option LineStream
 stream_of w key = get nat_cmp w.streams key
 
--- a stream of which nothing came, and whose lines are taken as a writer takes them
+-- a stream of which nothing has come, and whose lines are taken as the writer takes them
 pub record IsNewStream (w : Writer) (s : LineStream) : Type 0 where
   pub fresh : IsFresh s
   pub rules : rules_by s ≡ rules_in w
 
--- a piece goes on with the stream of its connection; the first one, with a new stream
+-- a piece goes on with the stream of its connection; the first one, or one without a stream, with a new stream
 abbrev pub GoesOnWith : Writer → ℕ → Bool → LineStream → Type 0
 GoesOnWith w key is_first s =
     MatchOption (if is_first then None else stream_of w key) (IsNewStream w s) (λ known. s ≡ known)
@@ -33,11 +33,11 @@ GoesOnWith w key is_first s =
 abbrev pub KeepsOthers : Writer → Writer → ℕ → Type 0
 KeepsOthers old new key = (other : ℕ) → other ≢ key → stream_of new other ≡ stream_of old other
 
--- what a text may have at most, as memory has it
+-- as much of a text as memory can hold
 abbrev pub all_of : List ℕ → List ℕ
 all_of text = take (2 ^ 64 - 1) text
 
--- the lines of a piece were taken, and their refusals given; more are to come
+-- the lines of a piece were taken, and their refusals given; its stream stays
 pub record TakesPiece (old new : Writer) (key : ℕ) (piece : Piece) (change : Change) (refusals : List ℕ) : Type 0 where
   pub stream : LineStream
   pub after : LineStream
@@ -50,7 +50,7 @@ pub record TakesPiece (old new : Writer) (key : ℕ) (piece : Piece) (change : C
   pub kept : refusals ≡ all_of answers
   pub stays : stream_of new key ≡ Some after
 
--- the lines of the last piece were taken, and what was left of the stream as a line; the report is of all its lines
+-- the lines of the last piece were taken, and what was left of the stream, as a line; the report is of all its lines
 pub record EndsWithPiece (old new : Writer) (key : ℕ) (piece : Piece) (change : Change) (refusals : List ℕ)
     (report : Report) : Type 0 where
   pub stream : LineStream
@@ -69,7 +69,7 @@ pub record EndsWithPiece (old new : Writer) (key : ℕ) (piece : Piece) (change 
   pub kept : refusals ≡ all_of (answers ++ more)
   pub over : stream_of new key ≡ None
 
--- a connection that has no more pieces than it may have is closed
+-- the lines of a piece were taken, or those of the last one; or its connection is closed, and its stream is gone
 abbrev pub AddsPiece : Writer → Writer → ℕ → Piece → Change → PendingView → Type 0
 AddsPiece old new key piece change (decided reply) = ⊥
 AddsPiece old new key piece change (body refusals report) = ⊥

@@ -16,12 +16,12 @@ use Rattle.rr_batch.specs.declared.refusals.TheConstants.{COLON, MAX_NAMES}
 
 -- ---- the lines of a text, by name
 
--- a byte in front of the first of lines, if there is one
+-- lines with a byte before the first of them, if there is one
 abbrev pub onto_first : ℕ → List (List ℕ) → List (List ℕ)
 onto_first byte [] = []
 onto_first byte (line ∷ lines) = (byte ∷ line) ∷ lines
 
--- the lines of a text that a line feed ends, without it
+-- the lines of a text that end in a line feed, without it
 abbrev pub whole_lines : List ℕ → List (List ℕ)
 whole_lines [] = []
 whole_lines (byte ∷ text) =
@@ -54,11 +54,11 @@ lines_under name counts = unwrap_or (get_called bytes_cmp (λ (key : Vec ℕ). k
 abbrev pub all_lines : RefusalCounts → ℕ
 all_lines counts = sum (values counts.named) + counts.other
 
--- a further name would be counted
+-- another name would be counted
 abbrev pub HasRoom : RefusalCounts → Type 0
 HasRoom counts = btree_map_len counts.named < MAX_NAMES
 
--- this number of lines was added to the counts; as long as a further name would be counted, this number to each name
+-- this many lines were added to the counts; and as long as another name would be counted, this many to each name
 pub record Counts (old new : RefusalCounts) (lines : ℕ) (named : List ℕ → ℕ) : Type 0 where
   pub all : all_lines new ≡ all_lines old + lines
   pub room : HasRoom new → HasRoom old
@@ -68,7 +68,7 @@ pub record Counts (old new : RefusalCounts) (lines : ℕ) (named : List ℕ → 
 abbrev pub one_if : List ℕ → Option (List ℕ) → ℕ
 one_if name own = if is_name name own then 1 else 0
 
--- refused lines are counted, those that a text has by their names, as long as no count can pass its greatest value
+-- refused lines are counted, those in a text by their names, as long as no count can pass its greatest value
 abbrev pub CountsRefused : RefusalCounts → RefusalCounts → List ℕ → ℕ → Type 0
 CountsRefused old new text refused =
     all_lines old + max refused (length (whole_lines text)) < 2 ^ 64
@@ -81,13 +81,13 @@ count_view counted = (counted.fault.items, counted.lines)
 abbrev pub named_count : Vec ℕ × ℕ → List ℕ × ℕ
 named_count entry = (entry.0.items, entry.1)
 
--- the lines of each name, in the order of the names, and at last those of `other`
+-- how many lines each name has, in the order of the names, and last those of `other`
 abbrev pub counts_of : RefusalCounts → List (List ℕ × ℕ)
 counts_of counts = map named_count counts.named.entries ++ (codes "other", counts.other) ∷ []
 
 -- ---- what refusals of lines come to
 
--- the number of a line and the name of its fault, of which a line of text is written
+-- the number of a line and the name of its fault, which can be written as a line of text
 abbrev pub IsRefusal : ℕ × List ℕ → Type 0
 IsRefusal refusal = (refusal.0 < 2 ^ 64) × HasNoLineFeed refusal.1
 
@@ -95,7 +95,7 @@ IsRefusal refusal = (refusal.0 < 2 ^ 64) × HasNoLineFeed refusal.1
 abbrev pub refusals_text : List (ℕ × List ℕ) → List ℕ
 refusals_text refusals = flat_map (λ refusal. refusal_text refusal.0 refusal.1) refusals
 
--- the text of refusals has a line for each, and as many of a name as there are of them with this name
+-- the text of refusals has a line for each, and as many lines with a name as there are refusals with it
 abbrev pub RefusalsAreCounted : Type 0
 RefusalsAreCounted = (refusals : List (ℕ × List ℕ)) → AllByRecursion IsRefusal refusals →
     (length (whole_lines (refusals_text refusals)) ≡ length refusals)

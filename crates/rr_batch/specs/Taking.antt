@@ -17,7 +17,7 @@ use Rattle.rr_batch.specs.declared.writer.TheConstants.{MAX_REFUSALS}
 use Rattle.rr_batch.specs.Answers.{PendingView, decided, body, lines, closed}
 use Rattle.rr_batch.specs.Refusals.{CountsRefused}
 
--- how a keeper and what a clock gave were before an item, and how they are after it
+-- a keeper, and what a clock gave, before an item and after it
 pub record Change : Type 0 where
   pub before : KeeperState
   pub now : KeeperState
@@ -46,7 +46,7 @@ TakesRequest precision rules request change (body refusals report) =
 TakesRequest precision rules request change (lines refusals report) = ⊥
 TakesRequest precision rules request change closed = ⊥
 
--- the refused lines of what an item came to are counted: of a body all, of a piece those that came with it
+-- the refused lines of an item are counted: of a body all, of a piece those that came with it
 abbrev pub CountsPending : RefusalCounts → RefusalCounts → PendingView → Type 0
 CountsPending old new (decided reply) = new ≡ old
 CountsPending old new (body refusals report) = CountsRefused old new refusals report.refused

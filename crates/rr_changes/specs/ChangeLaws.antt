@@ -30,7 +30,7 @@ TimesStayIn = (near : ℕ) (ps : ChangeTimes) (time other : ℤ) → is_in_times
 
 -- ---- operations that are tracked
 
--- with one more, which is tracked, and keys that grow, they are tracked still
+-- with one more that is tracked, and with keys added, operations are still tracked
 abbrev pub OneMoreIsTracked : Type 0
 OneMoreIsTracked =
     (keys more : List (List ℕ)) (c d : ChangedState) (h : ReplicaState) (ops : List Op) (op : Op) (i : ℕ)
@@ -39,7 +39,7 @@ OneMoreIsTracked =
     → ((j : ℕ) → j ≢ i → times_of d j ≡ times_of c j)
     → AreTracked keys c h ops → AreTracked more d h (ops ++ op ∷ [])
 
--- so they are with one more that changes no cell, which may be passed over
+-- so they are with one more that changes no cell, which needn't be tracked
 abbrev pub UnchangingNeedsNoTracking : Type 0
 UnchangingNeedsNoTracking =
     (keys more : List (List ℕ)) (c d : ChangedState) (h : ReplicaState) (ops : List Op) (op : Op) → IsPrefix keys more
@@ -54,14 +54,14 @@ TrackedOperationsAreCovered =
 
 -- ---- cells within ranges
 
--- where all operations since a moment are covered, the cells within the ranges are an update since then
+-- if all operations since a moment are covered, the cells within the ranges are an update since then
 abbrev pub CoveredCellsAreAnUpdate : Type 0
 CoveredCellsAreAnUpdate =
     (h : ReplicaState) (ops : List Op) (series : List ChangedSeries) → GoesOn h
     → AreCovered series h ops
     → IsUpdate h.cells (fold step h ops).cells (retain_keys (fold step h ops).cells (is_within h.schema series))
 
--- so whoever has the cells of then, and joins those within the ranges one by one, has the cells of now
+-- so joining those within the ranges, one by one, to the earlier cells makes the current ones
 abbrev pub CoveredCellsMakeTheCells : Type 0
 CoveredCellsMakeTheCells =
     (h : ReplicaState) (ops : List Op) (series : List ChangedSeries) → GoesOn h
@@ -69,19 +69,19 @@ CoveredCellsMakeTheCells =
     → join_cells h.schema h.cells (changes_among h.schema series (entries (fold step h ops).cells))
     ≡ (fold step h ops).cells
 
--- so what is written at the end of each period are writes, one after the other
+-- so what is written at the end of each period makes writes, one after the other
 abbrev pub PeriodsAreWrites : Type 0
 PeriodsAreWrites = (h : ReplicaState) (periods : List Period) → GoesOn h → ArePeriods h periods
     → AreWrites h.schema h.cells (writes_of h periods)
 
--- batches, each after the one before, are the whole list
+-- batches, each after the one before, make up the whole list
 abbrev pub BatchesAreTheWhole : Type 0
 BatchesAreTheWhole =
     (limit : ℕ) (after : Option CellName) (es : List NamedCell) (batches : List (List NamedCell))
     → IsTrue (is_sorted cell_name_cmp es) → AreBatches limit after es batches
     → flat_map (λ b. b) batches ≡ cells_after after es
 
--- so whoever has the cells of then, and joins the batches to the end, has the cells of now
+-- so joining all batches to the earlier cells makes the current ones
 abbrev pub BatchesMakeTheCells : Type 0
 BatchesMakeTheCells =
     (h : ReplicaState) (ops : List Op) (series : List ChangedSeries) (limit : ℕ) (batches : List (List NamedCell))
@@ -89,7 +89,7 @@ BatchesMakeTheCells =
     → AreBatches limit None (changes_among h.schema series (entries (fold step h ops).cells)) batches
     → join_cells h.schema h.cells (flat_map (λ b. b) batches) ≡ (fold step h ops).cells
 
--- so they do where each operation since then is tracked, by the number of its series, and these series are asked for
+-- so it does if each operation since then is tracked, by the number of its series, and these series are asked for
 abbrev pub TrackedChangesMakeTheCells : Type 0
 TrackedChangesMakeTheCells =
     (h : ReplicaState) (ops : List Op) (keys : List (List ℕ)) (c : ChangedState) (series : List ChangedSeries)

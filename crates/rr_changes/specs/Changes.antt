@@ -1,4 +1,4 @@
--- The cells of changed series that are in the slots of their ranges, a number of them at a time.
+-- The cells of changed series in the slots of their ranges, a number of them at a time.
 use Rattle.std.specs.Prelude.{◌≡◌, ◌⊎◌, ℕ, ℤ, ◌-◌, int_le, nat_eq, nat_lt, All, Bool, true, false, MatchBool, ◌&&◌, ◌||◌, List, [], ◌∷◌, ◌++◌, fold, length, take, if◌then◌else◌, Option, Some, None}
 use Rattle.std.specs.Borrow.{Bor}
 use Rattle.std.specs.Cmp.Lexicographic.{pointwise, slice_cmp}
@@ -26,7 +26,7 @@ use Rattle.rr_changes.specs.Updates.{Write, op_time}
 
 -- ---- cells within ranges
 
--- whether a slot of an archive is that of a time of the range
+-- whether a slot of an archive is that of a time in the range
 abbrev pub is_slot_in_range : Layout → ℕ → TimeRange → ℤ → Bool
 is_slot_in_range s archive p slot = int_le (slot_of s archive p.first) slot && int_le slot (slot_of s archive p.last)
 
@@ -55,7 +55,7 @@ is_op_in series op = pointwise nat_eq (op_key op) series.key && is_in_times seri
 abbrev pub is_covered : List ChangedSeries → Op → Bool
 is_covered series op = list_any (λ own. is_op_in own op) series
 
--- each operation is so, or changes no cell of the replica where its turn comes
+-- each operation is covered, or changes no cell of the replica when its turn comes
 abbrev pub AreCovered : List ChangedSeries → ReplicaState → List Op → Type 0
 AreCovered series h [] = Unit {0}
 AreCovered series h (op ∷ ops) =
@@ -63,7 +63,7 @@ AreCovered series h (op ∷ ops) =
 
 -- ---- one write after the other
 
--- the operations from one write to the next, and the series that have changed then
+-- the operations from one write to the next, and the series that have changed by then
 pub record Period : Type 0 where
   pub ops : List Op
   pub series : List ChangedSeries
@@ -87,16 +87,16 @@ writes_of h (p ∷ later) = record {
 abbrev pub name_in : Option (Bor Cell) → Option CellName
 name_in after = option_map (λ c. (owned_cell c.now).0) after
 
--- of these cells the first after a name, as many as a limit
+-- the first of these cells after a name, at most as many as a limit
 abbrev pub next_of : ℕ → Option CellName → List NamedCell → List NamedCell
 next_of limit after es = take limit (cells_after after es)
 
--- the name of the last of these cells; another one, where there is none
+-- the name of the last of these cells, or another name if there are none
 abbrev pub last_name : Option CellName → List NamedCell → Option CellName
 last_name other [] = other
 last_name other (e ∷ es) = last_name (Some e.0) es
 
--- the batches of a list: each has the next of it after the batch before, and the last has fewer than the limit
+-- the batches of a list: each has what comes next after the batch before, and the last has fewer than the limit
 abbrev pub AreBatches : ℕ → Option CellName → List NamedCell → List (List NamedCell) → Type 0
 AreBatches limit after es [] = ⊥
 AreBatches limit after es (b ∷ batches) =
@@ -153,7 +153,7 @@ is_cell_in_archive s series archive e =
     is_in_slots (slots_of s series.key archive series.times.recent) e
     || is_in_slots (slots_of s series.key archive series.times.late) e
 
--- these cells, and of others as many as reach a limit with them
+-- these cells, and as many others as reach a limit with them
 abbrev pub up_to : ℕ → List NamedCell → List NamedCell → List NamedCell
 up_to limit es more = es ++ take (limit - length es) more
 

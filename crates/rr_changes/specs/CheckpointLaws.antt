@@ -13,8 +13,8 @@ use Rattle.rr_changes.specs.Checkpoints.{AreFrom, AreUpTo, WasHeld, IsCheckpoint
 
 -- ---- key by key, each key at a moment of its own
 
--- whoever joins all cells of a checkpoint and all that was written since its first moment, in any order, any number of
--- times and with other cells, holds the cells of the last write; also where keys were read later than that
+-- joining all cells of a checkpoint and all that was written since its first moment, in any order, any number of times
+-- and with other cells, gives all the cells of the last write, even if keys were read later than that
 abbrev pub CheckpointsBringAll : Type 0
 CheckpointsBringAll =
     (s : Layout) (m x : Cells) (writes : List Write) (moments : List Cells) (cells es : List NamedCell) → IsLayout s
@@ -22,7 +22,7 @@ CheckpointsBringAll =
     → All (Contains es) (cells ++ written_cells writes)
     → Holds s (join_cells s x es) (last_cells m writes)
 
--- and has no cell but those that were held at one of the moments, or at a write, if there was none before
+-- and from an empty map, with no other cells, gives only cells that were held at one of the moments, or at a write
 abbrev pub CheckpointsBringWhatWasHeld : Type 0
 CheckpointsBringWhatWasHeld =
     (s : Layout) (m : Cells) (writes : List Write) (moments : List Cells) (cells es : List NamedCell) (n : CellName)
@@ -30,7 +30,7 @@ CheckpointsBringWhatWasHeld =
     → All (Contains (cells ++ written_cells writes)) es → get (join_cells s empty es) n ≡ Some c
     → WasHeld (moments ++ map (λ w. w.cells) writes) n c
 
--- so where all keys were read before the last write, it has exactly the cells of that
+-- so if all keys were read before the last write, it gives exactly the cells of that
 abbrev pub CheckpointsMakeTheLast : Type 0
 CheckpointsMakeTheLast =
     (s : Layout) (m : Cells) (writes : List Write) (moments : List Cells) (cells es : List NamedCell) → IsLayout s

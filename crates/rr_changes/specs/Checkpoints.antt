@@ -12,11 +12,11 @@ use Rattle.rr_changes.specs.Updates.{Holds}
 
 -- ---- moments
 
--- each of these was held from a moment on: it holds all that was held then
+-- each of these was held at a moment or later: it holds all that was held then
 abbrev pub AreFrom : Layout → Cells → List Cells → Type 0
 AreFrom s first moments = All (λ held. Holds s held first) moments
 
--- and up to a moment: what is held then holds all of each
+-- and at a moment or earlier: what is held then holds all of each
 abbrev pub AreUpTo : Layout → Cells → List Cells → Type 0
 AreUpTo s last moments = All (λ held. Holds s last held) moments
 
@@ -26,7 +26,7 @@ WasHeld moments n c = (held : Cells) × Contains moments held × (get held n ≡
 
 -- ---- key by key
 
--- of a key these cells are exactly those of a map
+-- for a key, these cells are exactly those of a map
 abbrev pub AreOf : List ℕ → Cells → List NamedCell → Type 0
 AreOf key held cells = (n : CellName) (c : Contribution) → n.key ≡ key
     → Contains cells (n, c) ↔ (get held n ≡ Some c)
@@ -37,12 +37,12 @@ IsCheckpoint moments cells = (key : List ℕ) → (held : Cells) × Contains mom
 
 -- ---- a limited number of cells at a time
 
--- a batch of a walk: at most how many cells it has, and what was held when it was read
+-- a batch of a walk: how many cells it has at most, and what was held when it was read
 pub record Batch : Type 0 where
   pub limit : ℕ
   pub held : Cells
 
--- the cells that a walk reads after a name: of each batch the first after those of the batch before, and at its end all
+-- the cells that a walk reads after a name: in each batch the first after those of the batch before, and at its end all
 -- that are left
 abbrev pub walked : Option CellName → List Batch → Cells → List NamedCell
 walked after [] last = cells_after after (entries last)
@@ -61,8 +61,8 @@ pub record Read : Type 0 where
   pub held : Cells
   pub cells : List NamedCell
 
--- what is read by one call after another, each for at most a limited number of cells after those of the call before,
--- until fewer come
+-- what is read by one call after another, each for a limited number of cells after those of the call before, until
+-- fewer come
 abbrev pub AreReads : ℕ → Option CellName → List Read → Type 0
 AreReads limit after [] = ⊥
 AreReads limit after (r ∷ reads) =
@@ -75,7 +75,7 @@ batches_of limit [] = []
 batches_of limit (r ∷ []) = []
 batches_of limit (r ∷ q ∷ reads) = record { limit = limit; held = r.held } ∷ batches_of limit (q ∷ reads)
 
--- what was held at the last of them, at which the walk ends; else another map
+-- what was held at the last of them, where the walk ends; or another map if there are none
 abbrev pub end_of : Cells → List Read → Cells
 end_of m [] = m
 end_of m (r ∷ reads) = end_of r.held reads

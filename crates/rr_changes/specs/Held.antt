@@ -10,7 +10,7 @@ use Rattle.rr_cells.specs.CellBounds.{NamedCell}
 abbrev pub before_of : ℤ → ℕ → ℤ × ℕ
 before_of slot origin = if origin == 1 then (slot -ℤ pos 1, MAX_ORIGIN) else (slot, origin - 1)
 
--- what a cell contributes, if it is of a name
+-- what a cell contributes, if it has this name
 abbrev pub at_name : CellName → Option NamedCell → Option Contribution
 at_name n None = None
 at_name n (Some e) = cond (eq_by_cmp cell_name_cmp n e.0) (Some e.1) None

@@ -15,8 +15,8 @@ use Rattle.rr_changes.specs.declared.time_range.TheConstants.{UNCHANGED}
 use Rattle.rr_changes.specs.ChangeTimes.{is_changed, is_in_times}
 use Rattle.rr_changes.specs.Updates.{op_time}
 
--- how near a time widens a range, the ranges of each series by its number, and for how many more there is room to be
--- listed
+-- how near a time has to be to widen a range, the ranges of each series by its number, and how many more series there
+-- is room to list
 pub record ChangedState : Type 0 where
   pub near : ℕ
   pub times : List ChangeTimes
@@ -51,7 +51,7 @@ pub record AreListed (times : List ChangeTimes) (changed : List ℕ) : Type 0 wh
 abbrev pub AreInOrder : List ChangedSeries → Type 0
 AreInOrder series = IsStrictlySortedBy bytes_cmp (map (λ c. c.key) series)
 
--- a series that has changed, by its number, at which its key and its ranges are
+-- a series that has changed, whose key and ranges are at its number
 pub record IsSeriesAt (keys : List (List ℕ)) (times : List ChangeTimes) (i : ℕ) (series : ChangedSeries) : Type 0 where
   pub key : slice_get keys i ≡ Some series.key
   pub here : times_at times i ≡ series.times
@@ -68,7 +68,7 @@ pub record AreChangedSeries (keys : List (List ℕ)) (times : List ChangeTimes) 
 abbrev pub times_by : List (List ℕ × ChangeTimes) → List ℕ → Option ChangeTimes
 times_by entries key = lookup (is_at (bytes_cmp key)) entries
 
--- with the ranges of a number at its key, if it has one, which no number before it has
+-- the ranges of a number were put at its key, if it has one, which no number before it has
 pub record AddsSeries (keys : List (List ℕ)) (i : ℕ) (times : ChangeTimes) (old new : List (List ℕ × ChangeTimes)) : Type 0 where
   pub here : (key : List ℕ) → slice_get keys i ≡ Some key → times_by new key ≡ Some times
   pub others : (key : List ℕ) → slice_get keys i ≢ Some key → times_by new key ≡ times_by old key
@@ -93,7 +93,7 @@ pub record IsTracked (keys : List (List ℕ)) (c : ChangedState) (op : Op) : Typ
   pub key : slice_get keys number ≡ Some (op_key op)
   pub time : is_in_times (times_of c number) (op_time op) ≡ true
 
--- each of these is tracked, or changes no cell of the replica where its turn comes
+-- each of these is tracked, or changes no cell of the replica when its turn comes
 abbrev pub AreTracked : List (List ℕ) → ChangedState → ReplicaState → List Op → Type 0
 AreTracked keys c h [] = Unit {0}
 AreTracked keys c h (op ∷ ops) =

@@ -14,7 +14,7 @@ use Rattle.rr_cells.specs.Joins.{join}
 use Rattle.rr_cells.specs.Operations.{op_key}
 use Rattle.rr_cells.specs.ReplicaState.{ReplicaState}
 
--- x holds all that m holds: to join m to it changes nothing
+-- x holds all that m holds: joining m to it changes nothing
 abbrev pub Holds : Layout → Cells → Cells → Type 0
 Holds s x m = join s x m ≡ x
 
@@ -23,11 +23,11 @@ abbrev pub is_at_least : Option Contribution → Contribution → Bool
 is_at_least None c = false
 is_at_least (Some d) c = is_le (contribution_cmp c d)
 
--- whether a cell is held already: one of its name is there that contributes no less
+-- whether a cell is held already: there is one with its name that contributes no less
 abbrev pub is_held : Cells → NamedCell → Bool
 is_held m e = is_at_least (get m e.0) e.1
 
--- each cell of the update is a cell of now, and each cell of now is one of before or of the update
+-- each cell of the update is a current cell, and each current cell is one of before or of the update
 pub record IsUpdate (before now update : Cells) : Type 0 where
   pub part : (n : CellName) (c : Contribution) → get update n ≡ Some c → get now n ≡ Some c
   pub whole : (n : CellName) (c : Contribution) → get now n ≡ Some c
@@ -57,14 +57,14 @@ written_cells (w ∷ later) = entries w.update ++ written_cells later
 
 -- ---- operations
 
--- what a replica keeps to whose operations only add: its cells are live, and those of its own origin are of numbers
--- before the next
+-- what holds of a replica whose operations only add: its cells are live, and those of its own origin have versions
+-- before its next number
 pub record GoesOn (h : ReplicaState) : Type 0 where
   pub layout : IsLayout h.schema
   pub live : IsTrimmed h.schema h.cells
   pub own : (n : CellName) (c : Contribution) → get h.cells n ≡ Some c → n.origin ≡ h.origin → c.version < h.next
 
--- the time of its sample; of a cell that is joined, that of the last sample in it
+-- the time of its sample; for a cell that is joined, that of the last sample in it
 abbrev pub op_time : Op → ℤ
 op_time (Put x) = x.time
 op_time (Join c) = c.contribution.last_time

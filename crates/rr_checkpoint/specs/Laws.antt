@@ -1,4 +1,4 @@
--- The laws of checkpoints that are written, each the contract of a function of `src/laws.rt`.
+-- The laws of written checkpoints, each the contract of a function of `src/laws.rt`.
 use Rattle.std.specs.Prelude.{◌≡◌, ◌^◌, ◌<◌, ℕ, Bool, List, [], ◌∷◌, ◌++◌, length, Some, Ok, All, Contains}
 use Rattle.std.specs.FinMap.{empty}
 use mathlib.Core.List.{IsPrefix}
@@ -27,13 +27,14 @@ use Rattle.rr_checkpoint.specs.Walk.{AreSeen, IsWalk, cells_read}
 
 -- ---- what is read
 
--- a desk whose first operations made what a replica holds, which takes all that follow: a keeper's, from a moment on
+-- a desk whose first operations made what a replica holds, and which takes all that follow: a keeper's, from a moment
+-- on
 pub record IsDesk (h : ReplicaState) (from more : List Op) : Type 0 where
   pub goes_on : GoesOn h
   pub made : h.cells ≡ outcome_of h.schema from
   pub taken : AllAccepted h more
 
--- time goes on at each read of a desk, and in the end all is held that was read
+-- time goes on with each read of a desk, and in the end all that was read is held
 abbrev pub ReadsGoForward : Type 0
 ReadsGoForward =
     (limit : ℕ) (h : ReplicaState) (from more : List Op) (reads : List Read) → IsDesk h from more
@@ -49,8 +50,8 @@ pub record WalksOver (h : ReplicaState) (from more : List Op) (first last : Read
   pub after : IsPrefix last.list (from ++ more)
   pub walk : IsWalk first last reads
 
--- whoever joins its cells, and all that was written since, in any order, any number of times and with other cells,
--- holds the cells of the last write; also where some were read later than that
+-- joining the cells of a walk and all that was written since, in any order, any number of times and with other cells,
+-- gives all the cells of the last write, even if some were read later than that
 abbrev pub CheckpointsBringAll : Type 0
 CheckpointsBringAll =
     (h : ReplicaState) (from more : List Op) (first last : ReaderState) (reads : List Read) (x : Cells)
@@ -59,7 +60,7 @@ CheckpointsBringAll =
     → All (Contains es) (cells_read reads ++ written_cells writes)
     → Holds h.schema (join_cells h.schema x es) (last_cells h.cells writes)
 
--- and has exactly these, with no other cells, where all operations are written in the end
+-- and exactly these, with no other cells, if all operations are written in the end
 abbrev pub CheckpointsMakeTheLast : Type 0
 CheckpointsMakeTheLast =
     (h : ReplicaState) (from more : List Op) (first last : ReaderState) (reads : List Read) (writes : List Write)
@@ -82,7 +83,8 @@ CheckpointsAreRead =
     (s : Layout) (begins : Cursor) (rs : List Raw) (cells : ℕ) → IsLayout s → IsCursor begins → AllFit rs
     → ReadsCheckpoint s begins rs cells (checkpoint_text s begins rs cells)
 
--- a start that takes it has joined the cells that its records mean, and goes on in the journal where it begins
+-- a start that takes a checkpoint has joined the cells of its records, and goes on in the journal where the checkpoint
+-- begins
 abbrev pub CheckpointsAreTaken : Type 0
 CheckpointsAreTaken =
     (s : Layout) (begins : Cursor) (rs : List Raw) (cells : ℕ) (meanings : List Meaning) (last : Bool) (x y : Reached)
@@ -103,7 +105,7 @@ with_end x cells = with_found x
       cells = x.found.cells;
     })
 
--- and a start whose first file it is takes it, where its records mean as many cells as its end states, and are taken
+-- and a start takes it as the first file, if its records are taken and mean as many cells as its end states
 abbrev pub CheckpointsAreWhole : Type 0
 CheckpointsAreWhole =
     (s : Layout) (begins : Cursor) (rs : List Raw) (cells : ℕ) (meanings : List Meaning) (last : Bool) (x : Reached)

@@ -11,7 +11,7 @@ use Rattle.rr_journal.specs.Header.{header_text}
 use Rattle.rr_journal.specs.Text.{Raw, AllFit, raw_of, records_text}
 use Rattle.rr_recovery.specs.Joining.{cells_of_record}
 
--- records are of these cells, one record after the other, and can be written
+-- records of these cells, one record after the other, which can be written
 pub record HaveCells (rs : List Raw) (cells : List NamedCell) : Type 0 where
   pub meanings : List Meaning
   pub text : rs ≡ map raw_text meanings
@@ -22,7 +22,7 @@ pub record HaveCells (rs : List Raw) (cells : List NamedCell) : Type 0 where
 abbrev pub end_text : ℕ → Raw
 end_text cells = raw_text (HasEnded cells)
 
--- a record is that, and can be written
+-- a record is this end, and can be written
 pub record IsEndOf (cells : ℕ) (raw : RawRecord) : Type 0 where
   pub text : raw_of raw ≡ end_text cells
   pub fits : length raw.body.items ≤ MAX_BODY_LEN

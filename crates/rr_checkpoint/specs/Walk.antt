@@ -17,7 +17,8 @@ use Rattle.rr_commit.specs.declared.record.TheConstants.{MAX_RECORD_CELLS}
 abbrev pub cells_read : List Read → List NamedCell
 cells_read reads = flat_map (λ r. r.cells) reads
 
--- each was read when these operations or more had been seen, and all before it
+-- each was read once these operations or more had been seen, and all that were seen at the read before it; all of those
+-- had been seen at the end
 abbrev pub AreSeen : Layout → List Op → List Op → List Read → Type 0
 AreSeen s from to [] = IsPrefix from to
 AreSeen s from to (r ∷ reads) =
@@ -29,7 +30,7 @@ AreNext after [] = Unit {0}
 AreNext after (r ∷ reads) =
     (r.cells ≡ next_of MAX_RECORD_CELLS after (entries r.held)) × AreNext (last_name after r.cells) reads
 
--- a reader gave all cells, a record's at a time, from the first on until fewer came
+-- a reader gave all cells, a record's worth at a time, from the first until fewer came
 pub record IsWalk (old new : ReaderState) (reads : List Read) : Type 0 where
   pub whole : AreReads MAX_RECORD_CELLS None reads
   pub seen : AreSeen old.schema old.list new.list reads

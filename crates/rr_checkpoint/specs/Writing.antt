@@ -1,4 +1,4 @@
--- What a call did that writes a checkpoint, or a part of one.
+-- What a call that writes a checkpoint, or a part of one, did.
 use Rattle.std.specs.Prelude.{◌≡◌, ◌+◌, ◌<◌, ◌≤◌, ℕ, List, length, MatchOption, Option, Result, Err}
 use Rattle.std.specs.FinMap.{entries}
 use Rattle.rr_cells.specs.CellNames.{CellName}
@@ -18,7 +18,7 @@ use Rattle.rr_checkpoint.specs.Text.{HaveCells, checkpoint_text}
 use Rattle.rr_checkpoint.specs.Walk.{IsWalk, cells_read}
 
 -- whatever is answered, a prefix of the text of some records was written, and nothing else; and the writer is blamed
--- only if a call of it failed
+-- only if a call to it failed
 pub record WritesSome {W X : Type 0} (contents : W → Option (List ℕ)) (old new : Counted W) (text : List Raw → List ℕ)
     (result : Result X CheckpointFault) : Type 0 where
   pub records : List Raw
@@ -26,7 +26,7 @@ pub record WritesSome {W X : Type 0} (contents : W → Option (List ℕ)) (old n
   pub failures_never_fall : KeepsFailures old new
   pub failed : result ≡ Err WriteFailed → HasFailed old new
 
--- records of these cells were written after a digest, and another is now that of the last
+-- records of these cells were written after a digest, which is now that of the last
 pub record WritesRecords {W : Type 0} (contents : W → Option (List ℕ)) (old new : Counted W) (before digest : List ℕ)
     (cells : List NamedCell) : Type 0 where
   pub records : List Raw
@@ -34,11 +34,11 @@ pub record WritesRecords {W : Type 0} (contents : W → Option (List ℕ)) (old 
   pub text : WritesWhole contents old new (records_text before records)
   pub chains : digest ≡ chain before records
 
--- the next cells after a name, of those that a reader has seen
+-- the next cells after a name, among those that a reader has seen
 abbrev pub next_seen : ReaderState → Option CellName → List NamedCell
 next_seen r after = next_of MAX_RECORD_CELLS after (entries (cells_seen r))
 
--- these are a whole record's, of which the last has this name; or fewer, so that no more follow
+-- these are a whole record's, and the last has this name; or fewer, so that no more follow
 abbrev pub IsLastOf : Option CellName → List NamedCell → Option CellName → Type 0
 IsLastOf after cells last = MatchOption last (length cells < MAX_RECORD_CELLS)
     (λ n. (MAX_RECORD_CELLS ≤ length cells) × (last_name after cells ≡ last))

@@ -9,11 +9,11 @@ use Rattle.rr_codec.specs.Fields.{SlotEntry}
 pub record LeftState : Type 0 where
   pub cells : Result (List SlotEntry) CodecFault
 
--- a cell, and those that are read behind it
+-- a cell, and those that are read after it
 abbrev pub with_cell : SlotEntry → LeftState → LeftState
 with_cell e left = record { cells = left.cells >>= λ es. Ok (e ∷ es) }
 
--- the first of the cells that are left is taken, or there is none, or a fault comes first; then nothing has changed
+-- the first of the cells that are left is taken; or there is none, or there is a fault, and nothing has changed
 abbrev pub TakesNext : LeftState → LeftState → Result (Option SlotEntry) CodecFault → Type 0
 TakesNext old new (Ok (Some e)) = old ≡ with_cell e new
 TakesNext old new (Ok None) = (old.cells ≡ Ok []) × (new ≡ old)

@@ -1,13 +1,13 @@
--- Which fields a cell is expected to have, from the last cell of its origin and those of its fields that are known: the
--- slot after; the version as far on as the last time; the time of the same moment of its row; the last value again; the
--- extremes as far from it; the sum of values halfway between these; and the other fields again. All are numbers of
--- 128 bits, of which the greatest is followed by 0.
+-- The fields that a cell is expected to have, from the last cell of its origin and those of its fields that are known:
+-- the next slot; the version as far on as before; the time at the same moment of its row; the last value again; the
+-- extremes as far from it; the sum of values halfway between these; and the other fields again. All are numbers of 128
+-- bits, the greatest of which is followed by 0.
 use Rattle.std.specs.Prelude.{ℕ, ◌+◌, ◌-◌, ◌*◌, ◌/◌, ◌%◌, ◌^◌}
 use Rattle.rr_codec.specs.declared.fields.Fields.{Fields}
 use Rattle.rr_codec.specs.declared.expecting.Before.{Before}
 use Rattle.rr_codec.specs.Steps.{step_to, step_from}
 
--- how far on a number is from another
+-- how far one number is after another
 abbrev pub apart : ℕ → ℕ → ℕ
 apart later earlier = (later + (2 ^ 128 - earlier)) % 2 ^ 128
 

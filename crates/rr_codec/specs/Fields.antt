@@ -1,4 +1,4 @@
--- The fields of a cell as numbers from 0 on, and the cell that such numbers are the fields of.
+-- The fields of a cell as numbers from 0 on, and the cell that has such fields.
 use Rattle.std.specs.Prelude.{ℕ, ℤ, ◌^◌, ◌<◌, nat_le, not, FitsSigned, ◌==◌, Result, Ok}
 use Rattle.std.specs.Int.{w64, w128, cast_signed, cast_unsigned}
 use Rattle.rr_text.specs.Results.{◌>>=◌, unless}
@@ -26,7 +26,7 @@ pub record IsTyped (e : SlotEntry) : Type 0 where
   pub last_value : FitsSigned w64 e.1.contribution.last_value
   pub mask : e.1.contribution.mask < 2 ^ 128
 
--- one with a sign is its two's complement of 128 bits
+-- a field with a sign is its two's complement of 128 bits
 unfoldable pub fields_of : SlotEntry → Fields
 fields_of e = record {
   slot = cast_unsigned w128 e.0;
@@ -45,7 +45,7 @@ fields_of e = record {
 abbrev pub number_below : ℕ → ℕ → Result ℕ CodecFault
 number_below bound n = unless BadNumber (nat_le bound n) (Ok n)
 
--- the number of 64 bits with a sign that a number of 128 bits stands for
+-- the signed number of 64 bits that a number of 128 bits stands for
 abbrev pub signed_of : ℕ → Result ℤ CodecFault
 signed_of n = unless BadNumber (not (fits_i64 (cast_signed w128 n))) (Ok (cast_signed w128 n))
 

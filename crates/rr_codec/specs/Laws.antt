@@ -18,13 +18,13 @@ ReadingsAreTexts =
     (bytes : List ℕ) (es : List SlotEntry) (rest : List ℕ) → All (λ b. b < 2 ^ 8) bytes
     → packed_at bytes ≡ Ok (es, rest) → (span : ℕ) × bytes ≡ packed_text span es ++ rest
 
--- each cell is valid in its slot of an archive, and behind the one before it
+-- each cell is valid in its slot of an archive, and comes after the one before it
 abbrev pub AreChecked : Layout → ℕ → Option SlotEntry → List SlotEntry → Type 0
 AreChecked s archive before [] = Unit {0}
 AreChecked s archive before (e ∷ es) =
     IsTrue (is_valid s archive e.0 e.1.contribution) × IsTrue (is_behind before e) × AreChecked s archive (Some e) es
 
--- what is taken from elsewhere is read as cells that are so
+-- what is taken from elsewhere is read as such cells
 abbrev pub WhatIsTakenIsChecked : Type 0
 WhatIsTakenIsChecked =
     (s : Layout) (archive : ℕ) (bytes : List ℕ) (es : List SlotEntry) → checked_cells_of s archive bytes ≡ Ok es

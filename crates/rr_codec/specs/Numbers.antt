@@ -1,5 +1,5 @@
--- Numbers as bytes, by LEB128 as DWARF 4 has it (section 7.6): seven bits each, the lowest first; the highest bit is
--- set in each byte but the last. A number is written in its fewest bytes alone.
+-- Numbers as bytes, in LEB128 as DWARF 4 defines it (section 7.6): seven bits each, the lowest first; the highest bit
+-- is set in each byte but the last. A number is written only in its fewest bytes.
 use Rattle.std.specs.Prelude.{ℕ, zero, suc, ◌+◌, ◌-◌, ◌*◌, ◌/◌, ◌%◌, ◌^◌, Bool, ◌||◌, ◌==◌, nat_lt, nat_le, List, [], ◌∷◌, Result, Ok, Err, if◌then◌else◌}
 use Rattle.rr_text.specs.Results.{◌>>=◌, unless}
 use Rattle.rr_codec.specs.declared.fault.CodecFault.{CodecFault}

@@ -48,7 +48,7 @@ cells_left read = read >>= λ x. Ok x.0
 abbrev pub alone : {X : Type 0} → X × List ℕ → Result X CodecFault
 alone x = unless TrailingBytes (not (length x.1 == 0)) (Ok x.0)
 
--- the cells that all of the bytes are
+-- all of the bytes, read as cells
 abbrev pub cells_of : List ℕ → Result (List SlotEntry) CodecFault
 cells_of bytes = packed_at bytes >>= alone
 
@@ -57,7 +57,7 @@ pub record IsWhole (bytes : List ℕ) (count span : ℕ) (cells : List ℕ) : Ty
   pub head : head_at bytes ≡ Ok ((count, span), cells)
   pub cells_end : rest_of (cells_at (nothing_known span) count cells) ≡ Ok []
 
--- ---- of what came from elsewhere
+-- ---- what came from elsewhere
 
 -- after a cell, or at the start
 abbrev pub is_behind : Option SlotEntry → SlotEntry → Bool
@@ -65,13 +65,13 @@ is_behind None e = true
 is_behind (Some before) e =
     int_lt before.0 e.0 || (int_eq before.0 e.0 && nat_lt before.1.origin e.1.origin)
 
--- a cell that is valid in its slot, and behind the one before it
+-- a cell that is valid in its slot, and comes after the one before it
 abbrev pub cell_checked : Layout → ℕ → Option SlotEntry → SlotEntry → Result SlotEntry CodecFault
 cell_checked s archive before e =
     unless BadContribution (not (is_valid s archive e.0 e.1.contribution))
     (unless OutOfOrder (not (is_behind before e)) (Ok e))
 
--- a cell, which is checked, and what is known after it, and what follows it
+-- a checked cell and what is known after it, and what follows it
 unfoldable pub checked_at : Layout → ℕ → Option SlotEntry → KnownState → List ℕ
     → Result ((SlotEntry × KnownState) × List ℕ) CodecFault
 checked_at s archive before k bytes = do
@@ -79,7 +79,7 @@ checked_at s archive before k bytes = do
   checked ← cell_checked s archive before first.0.0
   Ok ((checked, first.0.1), first.1)
 
--- n cells, each of which is checked, and what follows them
+-- n checked cells, and what follows them
 unfoldable pub cells_checked : Layout → ℕ → Option SlotEntry → KnownState → ℕ → List ℕ
     → Result (List SlotEntry × List ℕ) CodecFault
 cells_checked s archive before k zero bytes = Ok ([], bytes)
@@ -88,11 +88,11 @@ cells_checked s archive before k (suc n) bytes = do
   others ← cells_checked s archive (Some first.0.0) first.0.1 n first.1
   Ok (first.0.0 ∷ others.0, others.1)
 
--- the cells that all of the bytes are, as an archive of a schema may have them
+-- all of the bytes, read as cells that an archive of a schema may have
 abbrev pub checked_cells_of : Layout → ℕ → List ℕ → Result (List SlotEntry) CodecFault
 checked_cells_of s archive bytes =
     head_at bytes >>= (λ head. cells_checked s archive None (nothing_known head.0.1) head.0.0 head.1 >>= alone)
 
--- how many they are
+-- how many there are
 abbrev pub checked_count : Layout → ℕ → List ℕ → Result ℕ CodecFault
 checked_count s archive bytes = checked_cells_of s archive bytes >>= λ cells. Ok (length cells)

@@ -27,7 +27,7 @@ is_of origin b = b.cell.origin == origin
 abbrev pub place_of : List Before → ℕ → ℕ
 place_of recent origin = position_or_len (is_of origin) recent
 
--- what a cell of the origin at a place is expected by
+-- what a cell of the origin at a place is expected from
 abbrev pub before_at : List Before → ℕ → Before
 before_at recent place = get_or recent place start
 

@@ -1,4 +1,4 @@
--- The steps of a cell that goes on as most do: but for six they are 0.
+-- The steps of a cell that goes on as most do: all but six are 0.
 use Rattle.std.specs.Prelude.{◌≡◌, ◌∷◌, drop}
 use Rattle.rr_codec.specs.declared.expecting.Before.{Before}
 use Rattle.rr_codec.specs.declared.fields.Fields.{Fields}
@@ -33,7 +33,7 @@ pub record GoesOn (before cell : Fields) : Type 0 where
   pub count : step_to before.count cell.count ≡ 0
   pub mask : step_to before.mask cell.mask ≡ 0
 
--- the next cell is expected to be of the origin of the last one, and by this
+-- the next cell is expected to be of the origin of the last one, and from this
 pub record IsLast (k : KnownState) (b : Before) : Type 0 where
   pub place : k.place ≡ 0
   pub first : k.recent ≡ b ∷ drop 1 k.recent

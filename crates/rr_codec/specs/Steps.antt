@@ -6,10 +6,10 @@ use Rattle.rr_codec.specs.declared.fault.CodecFault.TheVariants.{BadNumber}
 use Rattle.rr_codec.specs.declared.steps.Steps.{Steps}
 use Rattle.rr_codec.specs.Numbers.{number_text, number_at}
 
--- ---- one step, among the numbers of 128 bits, of which the greatest is followed by 0
+-- ---- one step, among the numbers of 128 bits, the greatest of which is followed by 0
 
--- a difference, where those just below 0 are small too: 0, up 1 as 2, down 1 as 1, and so on, as Protocol Buffers write
--- numbers with a sign
+-- a difference, with those just below 0 small too: 0, up 1 as 2, down 1 as 1, and so on, as Protocol Buffers write
+-- signed numbers
 abbrev pub zigzag : ℕ → ℕ
 zigzag difference =
     if nat_lt difference (2 ^ 127) then 2 * difference else 2 * (2 ^ 128 - 1 - difference) + 1
@@ -25,7 +25,7 @@ step_to expected number = zigzag ((number + (2 ^ 128 - expected)) % 2 ^ 128)
 unfoldable pub step_from : ℕ → ℕ → ℕ
 step_from expected step = (expected + unzigzag step) % 2 ^ 128
 
--- ---- eleven steps: flags that say which of them are not 0, and these
+-- ---- eleven steps: flags that say which of them aren't 0, and then these
 
 -- a flag in front of others
 abbrev pub flagged : ℕ → ℕ → ℕ
@@ -37,7 +37,7 @@ flags_of s =
     flagged f.last_value (flagged f.version (flagged f.last_time (flagged f.min (flagged f.max (flagged f.sum
     (flagged f.count (flagged f.mask (flagged f.slot (flagged s.place (flagged f.origin 0))))))))))
 
--- a step that isn't 0
+-- a step, if it isn't 0
 abbrev pub step_text : ℕ → List ℕ
 step_text step = if step == 0 then [] else number_text step
 
@@ -60,7 +60,7 @@ steps_text s =
 abbrev pub some_number : ℕ × List ℕ → Result (ℕ × List ℕ) CodecFault
 some_number x = unless BadNumber (x.0 == 0) (Ok x)
 
--- a step by its flag, the first of these, the other flags, and what follows it
+-- a step, by the first of these flags; the other flags; and what follows it
 abbrev pub step_at : ℕ → List ℕ → Result (ℕ × ℕ × List ℕ) CodecFault
 step_at flags bytes =
     if flags % 2 == 0 then Ok (0, flags / 2, bytes)

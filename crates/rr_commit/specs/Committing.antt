@@ -1,4 +1,4 @@
--- Records that are committed in batches, and a keeper's changes that are.
+-- Records committed in batches, and the changes of a keeper committed so.
 use Rattle.std.specs.Prelude.{◌≡◌, ◌⊎◌, ℕ, List, [], ◌∷◌, ◌++◌, map, Option, Result, Ok, Err}
 use Rattle.std.specs.List.{flat_map}
 use Rattle.rr_cells.specs.CellBounds.{NamedCell}
@@ -12,7 +12,7 @@ use Rattle.rr_journal.specs.Text.{Raw, as_first}
 use Rattle.rr_recovery.specs.Joining.{cells_of_record}
 use Rattle.rr_desk.specs.KeeperState.{KeeperState, cells_of, written_cells}
 
--- these records, of which some are marked as the first after a sync
+-- these records, some of them marked as the first after a sync
 abbrev pub AreMarked : List Raw → List Raw → Type 0
 AreMarked [] [] = Unit {0}
 AreMarked [] (w ∷ ws) = ⊥
@@ -25,8 +25,8 @@ pub record IsCommitted (rs : List Raw) (old new text : Option (List ℕ)) (befor
   pub marked : AreMarked rs records
   pub committed : Committed old new text before cursor records
 
--- all of these were, or only the first of them; or, of a journal that can't be synced or cut back, what is there may
--- have more behind it than is known
+-- all of these were, or only a prefix of them; or, if the journal can't be synced or cut back, what was synced may have
+-- more behind it
 abbrev pub CommitsAll : List Raw → Option (List ℕ) → Option (List ℕ) → Option (List ℕ) → Cursor → Cursor
     → Result (Unit {0}) CommitFault → Type 0
 CommitsAll rs old new text before cursor (Ok done) = IsCommitted rs old new text before cursor
@@ -34,7 +34,7 @@ CommitsAll rs old new text before cursor (Err NotWritten) =
     (first : List Raw) × (left : List Raw) × (first ++ left ≡ rs) × IsCommitted first old new text before cursor
 CommitsAll rs old new text before cursor (Err NotSynced) = Grows old new
 
--- records of these cells, one after the other, of which some are marked
+-- records of these cells, one after the other, some of them marked
 pub record HaveCells (records : List Raw) (cells : List NamedCell) : Type 0 where
   pub meanings : List Meaning
   pub marked : AreMarked (map raw_text meanings) records

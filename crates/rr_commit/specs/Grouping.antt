@@ -20,7 +20,8 @@ slot_entry c = (c.slot, record { origin = c.origin; contribution = c.contributio
 abbrev pub groups_text : List Group → List ℕ
 groups_text groups = flat_map group_text (map packed_cells groups)
 
--- these groups have these cells, in order, in so many bytes for each: a group of one cell with the longest key
+-- these groups have these cells, in order, in at most as many bytes for each as a group of one cell with the longest
+-- key
 pub record HaveCells (groups : List Group) (cells : List Cell) : Type 0 where
   pub has : flat_map group_cells (map packed_cells groups) ≡ map owned_cell cells
   pub size : length (groups_text groups) ≤ 1178 * length cells

@@ -10,14 +10,14 @@ use Rattle.rr_journal.specs.Body.{Meaning, raw_text}
 use Rattle.rr_journal.specs.Text.{raw_of}
 use Rattle.rr_recovery.specs.Joining.{cells_of_record}
 
--- a record is of these cells, in order, and can be written
+-- a record of these cells, in order, which can be written
 pub record IsRecordOf (cells : List Cell) (raw : RawRecord) : Type 0 where
   pub meaning : Meaning
   pub text : raw_of raw ≡ raw_text meaning
   pub has : cells_of_record meaning ≡ map owned_cell cells
   pub fits : length raw.body.items ≤ MAX_BODY_LEN
 
--- records are of these cells, one record after the other, and can be written
+-- records of these cells, one record after the other, which can be written
 pub record AreRecordsOf (cells : List NamedCell) (raws : List RawRecord) : Type 0 where
   pub meanings : List Meaning
   pub text : map raw_of raws ≡ map raw_text meanings

@@ -61,7 +61,7 @@ begun asked reply = after_response asked reply.status (size_of reply.body) (head
 abbrev pub body_written : Bool → Server → List ℕ → Server
 body_written is_head server body = if is_head then server else with_writing server (after_data (writing server) (length body))
 
--- a response, as http1 writes it: its head, its body but after `HEAD`, and its end
+-- a response, as http1 writes it: its head, its body except after `HEAD`, and its end
 abbrev pub response_to : Server → Bool → ReplyView → List ℕ
 response_to asked is_head reply =
     planned_response asked reply.status (reason_of reply.status) (size_of reply.body) (headers_of reply.fields reply.closes)

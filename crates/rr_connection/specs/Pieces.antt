@@ -51,8 +51,8 @@ allocated c = (length c.unread.items + c.unread.spare) + (length c.unsent.items 
 abbrev pub EndsLine : List ℕ → Type 0
 EndsLine text = (line : List ℕ) × (text ≡ line ++ LINE_FEED ∷ [])
 
--- where these bytes are unread, the next piece has so many of them: up to the last line feed, or all that it may have if
--- there is none, and either no more will come or there are enough
+-- how many of these unread bytes the next piece has: they end in a line feed, or have none, and either no more will
+-- come or they are all that a piece may have; none yet, if they are the beginning of a line
 abbrev pub IsNextLen : List ℕ → Bool → Option ℕ → Type 0
 IsNextLen unread ended (Some len) =
     (len ≤ min (length unread) PIECE)
@@ -60,7 +60,7 @@ IsNextLen unread ended (Some len) =
     ⊎ (HasNoLineFeed (take len unread) × ((ended || len == PIECE) ≡ true)))
 IsNextLen unread ended None = HasNoLineFeed unread × (length unread < PIECE) × (ended ≡ false)
 
--- a piece is out where one isn't answered
+-- while a piece is out: the last one, or another
 abbrev pub phase_of : Bool → Phase
 phase_of true = WaitsLast
 phase_of false = Waits
@@ -71,7 +71,7 @@ after_answer Waits = Receives
 after_answer WaitsLast = Over
 after_answer Over = Over
 
--- the piece is the first part of what was unread, and what follows it is unread still
+-- the piece is the first part of what was unread, and what follows it is still unread
 pub record IsPiece (old new : LineConnection) (piece : Piece) : Type 0 where
   pub ready : is_ready old ≡ true
   pub parts : piece.text.items ++ unread_of new ≡ unread_of old

@@ -17,7 +17,7 @@ use Rattle.rr_connection.specs.Requests.{request_view, given_of}
 use Rattle.rr_connection.specs.Refused.{IsRefused, HasNoOther, refusal_text}
 use Rattle.rr_connection.specs.Stands.{RequestList, Receiving, HasGiven, unsent_of}
 
--- what is found in what was received behind these requests, where a body may have so many bytes
+-- what is found in what was received after these requests, with bodies of at most this many bytes
 abbrev pub Finds : ℕ → Found → HttpConnection → Limits → List ℕ → RequestList → Type 0
 Finds max_body (Found.Request r) new limits received answered =
     (m : Wire.Request) × (request_view r ≡ given_of m) × ReadsRequests limits received (answered ++ m ∷ []) new.unread.items
@@ -29,7 +29,7 @@ Finds max_body (Found.Refused refusal) new limits received answered =
 Finds max_body Found.Ended new limits received answered =
     ReadsRequests limits received answered [] × (new.phase ≡ Over)
 
--- the responses that go out with it: any that let a body come, and that of a refusal
+-- the response that goes out with it: that of a refusal
 abbrev pub found_text : Found → List ℕ
 found_text (Found.Request r) = []
 found_text Found.Nothing = []
@@ -40,6 +40,7 @@ found_text Found.Ended = []
 abbrev pub invitation : List ℕ
 invitation = codes "HTTP/1.1 100 Continue\r\n\r\n"
 
+-- a text goes out after what was to be sent, and before it responses that let a body come, if any
 abbrev pub Sends : List ℕ → HttpConnection → HttpConnection → Type 0
 Sends text old new =
     (count : ℕ) × (unsent_of new ≡ unsent_of old ++ (flat_map (λ continue. continue) (replicate count invitation) ++ text))
@@ -53,13 +54,13 @@ abbrev pub step_text : Step → List ℕ
 step_text On = []
 step_text (Stop found) = found_text found
 
--- an event was read, whose bytes are unread still
+-- an event was read, and its bytes are still unread
 abbrev pub AfterRead : HttpConnection → List HeaderSpan → Progress RequestSpans → Limits → List ℕ → RequestList → Type 0
 AfterRead c spans read limits received answered =
     (before : Server) × Receiving c.part before c.unread.items limits received answered
     × ServerReads before c.unread.items spans c.server read
 
--- whatever was received and given, what holds before leads to what holds then
+-- whatever was received and given, what held before implies what holds now
 abbrev pub Leads : (Limits → List ℕ → RequestList → Type 0) → (Limits → List ℕ → RequestList → Type 0) → Type 0
 Leads P Q = (limits : Limits) (received : List ℕ) (answered : RequestList) → P limits received answered → Q limits received answered
 
@@ -71,7 +72,7 @@ IsReceiving c limits received answered = (c.phase ≡ Receives) × HasGiven c li
 abbrev pub IsStarved : HttpConnection → Limits → List ℕ → RequestList → Type 0
 IsStarved c limits received answered = HasNoOther limits received answered × IsReceiving c limits received answered
 
--- where there may be more events, this holds
+-- if there may be more events, this holds
 abbrev pub StepsOn : Step → Type 0 → Type 0
 StepsOn On P = P
 StepsOn (Stop found) P = ⊤

@@ -28,11 +28,11 @@ refusal_text UnknownCoding = last_response (codes "501 Not Implemented")
 refusal_text CutShort = last_response (codes "400 Bad Request")
 refusal_text Memory = []
 
--- a head or trailers of more fields than may be
+-- a head or trailers with too many fields
 abbrev pub HasTooManyFields : Wire.Request → Type 0
 HasTooManyFields m = (MAX_HEADERS < length m.head.fields) ⊎ (MAX_HEADERS < length m.body.trailers)
 
--- whatever follows what was received, a request that it goes on with has this fault
+-- whatever follows what was received, the next request has this fault
 abbrev pub OnlyWith : (Wire.Request → Type 0) → Limits → List ℕ → List Wire.Request → Type 0
 OnlyWith Fault limits received requests =
     (more : List ℕ) (m : Wire.Request) → GoesOnWith limits (received ++ more) requests m → Fault m
@@ -41,7 +41,7 @@ OnlyWith Fault limits received requests =
 abbrev pub HasNoOther : Limits → List ℕ → List Wire.Request → Type 0
 HasNoOther limits received requests = (m : Wire.Request) → GoesOnWith limits received requests m → ⊥
 
--- why what was received is refused, where a body may have so many bytes
+-- why what was received is refused, with bodies of at most this many bytes
 abbrev pub IsRefused : ℕ → Refusal → Limits → List ℕ → List Wire.Request → Type 0
 IsRefused max_body (Malformed error) = OnlyWith HasTooManyFields
 IsRefused max_body BodyTooLong = OnlyWith (λ m. max_body < length m.body.bytes)

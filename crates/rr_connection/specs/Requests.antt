@@ -43,11 +43,11 @@ begun_at input spans head = record {
   body = [];
 }
 
--- whatever will be received, the stream begins with these requests, and what is unread follows them
+-- whatever more is received, the stream begins with these requests, and what is unread follows them
 abbrev pub ReadsOn : Limits → List ℕ → List Wire.Request → List ℕ → Type 0
 ReadsOn limits received requests unread =
     (more : List ℕ) → ReadsRequests limits (received ++ more) requests (unread ++ more)
 
--- behind these requests the stream has this one, whole
+-- after these requests, the stream has this one, whole
 abbrev pub GoesOnWith : Limits → List ℕ → List Wire.Request → Wire.Request → Type 0
 GoesOnWith limits stream requests m = (rest : List ℕ) × ReadsRequests limits stream (requests ++ m ∷ []) rest

@@ -68,7 +68,7 @@ pub record IsWithin (limits : Limits) (server : Server) (part : Request) (start 
   pub back : (more : List ℕ) (body : Body) (rest : List ℕ) → Completes decoder (unread ++ more) body rest → Completes (decoder_for limits framing) (after ++ more) (with_more part.body.items body) rest
   pub forth : (more : List ℕ) (whole : Body) (rest : List ℕ) → Completes (decoder_for limits framing) (after ++ more) whole rest → (body : Body) × (whole ≡ with_more part.body.items body) × Completes decoder (unread ++ more) body rest
 
--- where the reader stands in the stream, behind these requests: at a head, or within a body
+-- where the reader stands in the stream, after these requests: at a head, or within a body
 abbrev pub Receiving : Option Request → Server → List ℕ → Limits → List ℕ → RequestList → Type 0
 Receiving None server unread limits received requests =
     (server ≡ new_server limits) × ReadsOn limits received requests unread
@@ -88,12 +88,12 @@ StandsAt Waits c limits received answered None = ⊥
 StandsAt Waits c limits received answered (Some m) = Waiting c limits received answered m
 StandsAt Over c limits received answered asked = ⊤
 
--- these bytes were received, these requests were given and answered, and this one is out; nothing is said once nothing is
--- read any more
+-- these bytes were received, these requests were given and answered, and this one is out; nothing is claimed once
+-- nothing more is read
 abbrev pub HasGiven : HttpConnection → Limits → List ℕ → RequestList → Asked → Type 0
 HasGiven c = StandsAt c.phase c
 
--- what was so before is so then, whatever was received and given
+-- whatever a connection had received and given, it still has
 abbrev pub Keeps : HttpConnection → HttpConnection → Type 0
 Keeps old new =
     (limits : Limits) (received : List ℕ) (answered : RequestList) (asked : Asked) → HasGiven old limits received answered asked

@@ -39,7 +39,7 @@ abbrev pub allocated : HttpConnection → ℕ
 allocated c =
     (length c.unread.items + c.unread.spare) + (length c.unsent.items + c.unsent.spare) + part_room c.part
 
--- how many bytes a body has in all, of which this part came and this is left: at most as many as one may have, and as many
+-- how many bytes a body has in all, from the part that came and what is left: at most the limit, and the limit itself
 -- if that isn't known
 abbrev pub size_with : ℕ → Option Request → BodySize → ℕ
 size_with max None left = 0

@@ -12,7 +12,7 @@ use Rattle.rr_desk.specs.declared.change.Change.TheVariants.{Put, Join, AddKey, 
 use Rattle.rr_desk.specs.declared.shown.CopyState.{CopyState}
 use Rattle.rr_desk.specs.Editions.{BookPrefix}
 
--- by what a change says which operation it is: the origin of all samples, and the keys of series by their numbers
+-- what says which operation a change is: the origin of all samples, and the keys of series by their numbers
 pub record Names : Type 0 where
   pub origin : ℕ
   pub keys : List (List ℕ)
@@ -89,7 +89,8 @@ abbrev pub IsOwn : ℕ → Op → Type 0
 IsOwn origin (op.Put x) = x.origin ≡ origin
 IsOwn origin (op.Join c) = Unit {0}
 
--- a change is this operation, of the series with a number, where that has the operation's key
+-- a change is this operation, on the series with a number, if that has the operation's key and a put is of the origin;
+-- it changes no names
 pub record IsChangeOf (series : ℕ) (o : Op) (c : Change) : Type 0 where
   pub ops : (n : Names) → slice_get n.keys series ≡ Some (op_key o) → IsOwn n.origin o → ops_of n c ≡ o ∷ []
   pub names : (n : Names) → names_after n c ≡ n

@@ -5,7 +5,7 @@ use Rattle.rr_desk.specs.declared.fault.FetchFault.TheVariants.{GateShut, Memory
 use Rattle.rr_desk.specs.declared.gate.GateCall.{GateCall}
 use Rattle.rr_desk.specs.declared.gate.GateCall.TheVariants.{After, Before}
 
--- these calls were made, as far as calls are known: what isn't known once isn't known later
+-- these calls were made, as far as calls are known; once they aren't known, they aren't known later
 abbrev pub WasAsked : Option (List GateCall) → Option (List GateCall) → List GateCall → Type 0
 WasAsked None None calls = ⊤
 WasAsked None (Some since) calls = ⊥

@@ -1,4 +1,4 @@
--- What a keeper's operations are about, where its replica is one of many.
+-- What a keeper's operations are about, if its replica is one of many.
 use Rattle.std.specs.Prelude.{◌≡◌, ◌≢◌, ℕ, ◌<◌, List, [], ◌∷◌, ◌++◌, fold, Some}
 use Rattle.std.specs.FinMap.{get}
 use Rattle.std.specs.Ordering.{eq_by_cmp}
@@ -37,7 +37,7 @@ pub record HistoryState : Type 0 where
   pub world : World
   pub known : Knowledge
 
--- the marks of a cell: those that the others know, whole
+-- the marks of a cell: all that others know of it
 abbrev pub marks_in : Layout → Knowledge → Cell → Knowledge
 marks_in s known c = cells_where s known (eq_by_cmp cell_name_cmp (owned_cell c).0)
 
@@ -50,7 +50,7 @@ next_scene s z (put x) = record {
 }
 next_scene s z (joined known c) = record { world = z.world; known = union z.known (marks_in s known c) }
 
--- the cell is a whole live cell of what is known without a gap
+-- the cell is a whole live cell of a knowledge without gaps
 pub record IsWhole (s : Layout) (w : World) (known : Knowledge) (c : Cell) : Type 0 where
   pub closed : IsClosed s w known
   pub here : get (cells_of_knowledge s known) (owned_cell c).0 ≡ Some c.contribution

@@ -1,4 +1,4 @@
--- What contracts see of a keeper, and what it keeps to.
+-- What contracts see of a keeper, and what always holds of it.
 use Rattle.std.specs.Prelude.{◌≡◌, ℕ, Bool, true, List, [], ◌∷◌, ◌++◌, fold, length, take}
 use Rattle.logbook.specs.Pages.{Book}
 use Rattle.rr_schema.specs.Schema.{Layout}
@@ -11,8 +11,8 @@ use Rattle.rr_desk.specs.declared.change.Change.{Change}
 use Rattle.rr_desk.specs.Changes.{Names, ops_in, prefix_after}
 use Rattle.rr_desk.specs.Editions.{BookPrefix, flat, Begins}
 
--- a keeper: its desk; the schema, origin and next number of its own replica; the operations that are published, and
--- those that are pending; and how many of all, from the first on, are written
+-- a keeper: its desk; the schema, origin and next number of its own replica; the published operations, and the pending
+-- ones; and how many of all, from the first on, are written
 pub record KeeperState : Type 0 where
   pub desk : Book
   pub schema : Layout
@@ -34,7 +34,7 @@ written_cells k = outcome_of k.schema (take k.written (k.published ++ k.pending)
 abbrev pub own_replica : KeeperState → ReplicaState
 own_replica k = record { schema = k.schema; origin = k.origin; next = k.next; cells = cells_of k }
 
--- with an operation more that is pending
+-- with one more operation pending
 abbrev pub with_pending : KeeperState → Op → KeeperState
 with_pending k op = record {
   desk = k.desk;
@@ -58,7 +58,7 @@ with_all_published k = record {
   written = k.written;
 }
 
--- with all that it has written
+-- with all of its operations written
 abbrev pub with_all_written : KeeperState → KeeperState
 with_all_written k = record {
   desk = k.desk;
@@ -83,7 +83,7 @@ keeper_at_opening h b = record {
   written = length (joins_of h.cells);
 }
 
--- ---- what keepers keep to
+-- ---- what always holds of keepers
 
 -- the keeper's view fits the copy that is shown, and its own replica holds the pending operations too
 pub record IsTied (v : View) (shown own : ReplicaState) (pending : List Op) : Type 0 where
@@ -101,8 +101,8 @@ pub record IsBooked (v : View) (copy all : BookPrefix) (pending : List Op) : Typ
   pub shown : flat copy.editions ≡ v.seen
   pub whole : Begins (flat all.editions) (v.seen ++ pending)
 
--- the pending changes, by these names, can be published: the last edition that ends among them has what is published and all that is
--- pending
+-- the pending changes, read by these names, can be published: the last edition that ends among them has what is
+-- published and all that is pending
 pub record IsReady (v : View) (shown : ReplicaState) (n : Names) (prefix : BookPrefix) (cs : List Change) : Type 0 where
   pub writes : v.writes ≡ true
   pub joined : v.joined ≡ true
@@ -110,7 +110,8 @@ pub record IsReady (v : View) (shown : ReplicaState) (n : Names) (prefix : BookP
   pub ended : flat (prefix_after prefix cs).editions ≡ v.seen ++ ops_in n cs
   pub desk : (prefix_after prefix cs).desk ≡ v.desk
 
--- what a keeper keeps to, with the names of its copies, the changes that are pending, and whether the last of them ends an edition of all
+-- what always holds of a keeper, with the names of its copies, the pending changes, and whether the last of these ends
+-- an edition that has all
 pub record IsKeeper (v : View) (shown : ReplicaState) (n : Names) (own : ReplicaState) (prefix all : BookPrefix)
     (cs : List Change) (ended : Bool) : Type 0 where
   pub tied : IsTied v shown own (ops_in n cs)

@@ -37,8 +37,8 @@ use Rattle.rr_desk.specs.declared.shown.CopyState.{CopyState}
 use Rattle.rr_desk.specs.Rule.{Keeps}
 use Rattle.rr_desk.specs.Histories.{HistoryStep, elsewhere, put, joined, HistoryState, Knows, IsHistory, HasHistory, IsHonest, IsWhole, AreHonest, list_of, ops_of, scene_after}
 
--- a replica that takes samples of its own, and whole cells of closed knowledges, goes on to have the cells of a
--- knowledge with no gaps
+-- a replica that takes its own samples, and whole cells of closed knowledges, still has the cells of a knowledge
+-- without gaps
 abbrev pub OperationsAreKnown : Type 0
 OperationsAreKnown =
     (h : ReplicaState) (z : HistoryState) (steps : List HistoryStep) → Knows h z → AreHonest h.schema h.origin z steps
@@ -50,14 +50,14 @@ abbrev pub ListsAreKnown : Type 0
 ListsAreKnown = (h : ReplicaState) (z : HistoryState) (steps : List HistoryStep) → IsHistory h z steps
     → outcome_of h.schema (list_of h steps) ≡ cells_of_knowledge h.schema (scene_after h z steps).known
 
--- a reader, which has seen a beginning of them, has seen those of a beginning of what happened
+-- a reader that has seen a beginning of them has seen those of a beginning of what happened
 abbrev pub BeginningsAreHistories : Type 0
 BeginningsAreHistories =
     (h : ReplicaState) (z : HistoryState) (steps : List HistoryStep) (list : List Op) → IsHistory h z steps
     → IsPrefix (joins_of h.cells) list → IsPrefix list (list_of h steps)
     → (first : List HistoryStep) × IsPrefix first steps × IsHistory h z first × (list ≡ list_of h first)
 
--- it answers by exactly the samples that are known then
+-- it answers from exactly the samples that are known then
 abbrev pub AnswersAreOfSamples : Type 0
 AnswersAreOfSamples =
     (h : ReplicaState) (z : HistoryState) (steps : List HistoryStep) (q : Request) → IsHistory h z steps
@@ -84,7 +84,7 @@ abbrev pub OpeningIsHistory : Type 0
 OpeningIsHistory = (h : ReplicaState) (z : HistoryState) (b : Book) → Knows h z
     → HasHistory h z [] (keeper_at_opening h b)
 
--- `put`, where a number is left, is a step
+-- `put`, if a number is left, is a step
 abbrev pub PutIsAStep : Type 0
 PutIsAStep =
     (h : ReplicaState) (z : HistoryState) (steps : List HistoryStep) (k : KeeperState) (key : List ℕ) (time value : ℤ)
@@ -98,7 +98,7 @@ PutIsAStep =
           value;
     }) ∷ []) (with_put k key time value)
 
--- `write`, where as many numbers are left, is some steps
+-- `write`, if as many numbers are left as there are fields, is some steps
 abbrev pub WriteIsSteps : Type 0
 WriteIsSteps =
     (h : ReplicaState) (z : HistoryState) (steps : List HistoryStep) (k : KeeperState) (p : PointView) (time : ℤ)
@@ -113,20 +113,20 @@ JoinIsAStep =
     → IsWhole h.schema (scene_after h z steps).world known c
     → HasHistory h z (steps ++ joined known c ∷ []) (with_pending k (Join c))
 
--- `publish` is none
+-- `publish` is no step
 abbrev pub PublishIsNoStep : Type 0
 PublishIsNoStep = (h : ReplicaState) (z : HistoryState) (steps : List HistoryStep) (k : KeeperState)
     → HasHistory h z steps k → HasHistory h z steps (with_all_published k)
 
--- and what others write leaves the keeper
+-- and what others write leaves the keeper as it is
 abbrev pub OthersWrite : Type 0
 OthersWrite =
     (h : ReplicaState) (z : HistoryState) (steps : List HistoryStep) (k : KeeperState) (x : Sample)
     → HasHistory h z steps k → IsHonest h.schema h.origin (scene_after h z steps) (elsewhere x)
     → HasHistory h z (steps ++ elsewhere x ∷ []) k
 
--- what a replica with the cells of such a knowledge was saved as is loaded, under an origin that wrote nothing, as one
--- with these cells again
+-- the snapshot of a replica with the cells of such a knowledge is loaded, under an origin that wrote nothing, as a
+-- replica with these cells again
 abbrev pub LoadedIsKnown : Type 0
 LoadedIsKnown =
     (h : ReplicaState) (z : HistoryState) (origin : ℕ) → Knows h z → IsReplicaState h → len h.cells ≤ MAX_SNAPSHOT_CELLS
@@ -134,7 +134,7 @@ LoadedIsKnown =
     → (new : ReplicaState) × (loaded_at h.schema origin (snapshot_text latest h.schema h.origin (entries h.cells))
     ≡ Ok new) × Knows new z
 
--- and under a schema with one archive more as one of that schema, which has the cells of the same knowledge with the
+-- and under a schema with one more archive, as one of that schema, which has the cells of the same knowledge with the
 -- numbers of archives raised
 abbrev pub RaisedIsKnown : Type 0
 RaisedIsKnown =
@@ -147,7 +147,7 @@ RaisedIsKnown =
 
 -- ---- the rule of the two copies
 
--- at each moment each handle has seen a beginning of what the keeper has published, which it has all seen
+-- at each moment, each handle has seen a beginning of what the keeper has published, all of which the keeper has seen
 abbrev pub SeenIsPublished : Type 0
 SeenIsPublished =
     (x : CopyState) (views : List View) (handle writer : ℕ) (v w : View) → Keeps x views

@@ -9,7 +9,7 @@ use Rattle.rr_cells.specs.Operations.{cell_step}
 use Rattle.rr_replica.specs.Horizon.{keeps}
 use Rattle.rr_desk.specs.KeeperState.{KeeperState}
 
--- how many samples an operation puts that no archive keeps beside these cells: one or none
+-- how many samples an operation puts that no archive keeps, with these cells held: one or none
 abbrev pub lost_by : Layout → Cells → Op → ℕ
 lost_by s m (Put x) = if keeps s m x.key x.time then 0 else 1
 lost_by s m (Join c) = 0

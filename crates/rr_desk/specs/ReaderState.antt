@@ -13,11 +13,11 @@ use Rattle.rr_desk.specs.declared.rule.View.{View}
 use Rattle.rr_desk.specs.Rule.{newcomer}
 use Rattle.rr_desk.specs.KeeperState.{KeeperState, with_pending}
 
--- with these cells joined, which are pending, in order
+-- with these cells joined, in order, and pending
 abbrev pub with_joined : KeeperState → List Cell → KeeperState
 with_joined k cells = fold (λ k c. with_pending k (Join c)) k cells
 
--- a keeper that has joined these cells, one by one and in order, and is else as before
+-- a keeper that has joined these cells, one by one and in order, and is otherwise as before
 abbrev pub HasJoined : KeeperState → KeeperState → List NamedCell → Type 0
 HasJoined old new cells = new ≡ with_joined old (map to_cell cells)
 
@@ -31,18 +31,18 @@ pub record ReaderState : Type 0 where
 abbrev pub cells_seen : ReaderState → Cells
 cells_seen r = outcome_of r.schema r.list
 
--- a note: its desk, and the operations that it is of
+-- a note: its desk, and the operations that it tells of
 pub record NoteState : Type 0 where
   pub desk : Book
   pub list : List Op
 
--- a reader that has seen more, and is else as before
+-- a reader that has seen more, and is otherwise as before
 pub record HasSeenMore (old new : ReaderState) : Type 0 where
   pub desk : new.desk ≡ old.desk
   pub schema : new.schema ≡ old.schema
   pub list : IsPrefix old.list new.list
 
--- a reader has seen more, and this is said of its answer
+-- a reader has seen more, and this holds of its answer
 pub record AnswersSeen (old new : ReaderState) (Answer : Type 0) : Type 0 where
   pub seen : HasSeenMore old new
   pub answer : Answer

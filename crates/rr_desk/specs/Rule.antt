@@ -1,4 +1,4 @@
--- The rule of the two copies: what readers have seen and were told, and what the keeper has published, are beginnings
+-- The rule of the two copies: what readers have seen and been told, and what the keeper has published, are beginnings
 -- of one list.
 use Rattle.std.specs.Prelude.{◌≡◌, ℕ, true, false, ◌||◌, if◌then◌else◌, List, [], ◌++◌}
 use mathlib.Core.Option.{some}
@@ -47,7 +47,7 @@ pub record IsOutcome (x : CopyState) (list : List Op) : Type 0 where
   pub cells : x.held.cells ≡ outcome_of x.held.schema list
   pub book : flat x.prefix.editions ≡ list
 
--- there is one list: the copy is its outcome, and all that handles have seen and were told are beginnings of it
+-- there is one list: the copy is its outcome, and all that handles have seen and been told are beginnings of it
 pub record Keeps (x : CopyState) (views : List View) : Type 0 where
   pub list : List Op
   pub writer : ℕ
@@ -108,7 +108,7 @@ pub record Saw (v w : View) : Type 0 where
   pub seen : IsPrefix v.seen w.seen
   pub same : IsSameHandle v w
 
--- it was read under the rule, and this is said of the answer
+-- it was read under the rule, and this holds of the answer
 pub record Reads (v w : View) (Answer : Type 0) : Type 0 where
   pub seen : Saw v w
   pub answer : Answer

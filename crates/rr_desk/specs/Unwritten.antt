@@ -16,8 +16,8 @@ abbrev pub may_change : Cells → Op → Bool
 may_change m (Put x) = true
 may_change m (Join c) = not (is_held m (owned_cell c))
 
--- of these operations, which made this replica, the last ones are tracked: as many as are counted. The replica before
--- them holds the cells of the others
+-- of these operations, which made this replica, the last ones, as many as are counted, are tracked; the replica before
+-- them holds the cells that the others make
 pub record IsUnwritten (own : ReplicaState) (keys : List (List ℕ)) (u : Unwritten) (ops : List Op) : Type 0 where
   pub few : u.count ≤ length ops
   pub before : ReplicaState
@@ -26,16 +26,16 @@ pub record IsUnwritten (own : ReplicaState) (keys : List (List ℕ)) (u : Unwrit
   pub applied : own ≡ fold step before (drop (length ops - u.count) ops)
   pub tracked : AreTracked keys u.tracker before (drop (length ops - u.count) ops)
 
--- one operation more on the series with a number can be tracked
+-- one more operation on the series with a number can be tracked
 pub record HasRoomFor (u : Unwritten) (series : ℕ) : Type 0 where
   pub tracker : HasRoom u.tracker series
   pub count : u.count < 2 ^ 64 - 1
 
--- the same times are tracked of each series
+-- the same times are tracked for each series
 abbrev pub TracksTheSame : Unwritten → Unwritten → Type 0
 TracksTheSame old new = (i : ℕ) → times_of new.tracker i ≡ times_of old.tracker i
 
--- the time of an operation is tracked of the series with a number
+-- the time of an operation is tracked for the series with a number
 pub record Tracks (old new : Unwritten) (series : ℕ) (op : Op) : Type 0 where
   pub here : times_of new.tracker series
       ≡ with_time old.tracker.near (times_of old.tracker series) (op_time op)

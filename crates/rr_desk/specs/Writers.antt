@@ -1,4 +1,4 @@
--- What clauses read of the writer of the two copies.
+-- What clauses see of the writer of the two copies.
 use Rattle.std.specs.Prelude.{◌≡◌, ◌++◌, ◌≤◌, ℕ, false, List, [], Result, drop, fold}
 use Rattle.std.specs.declared.alloc.AllocError.{AllocError}
 use Rattle.left_right.specs.declared.Absorb.{Ghosts}

@@ -12,7 +12,7 @@ use Rattle.rr_changes.specs.Updates.{Holds, IsUpdate}
 use Rattle.rr_desk.specs.KeeperState.{KeeperState, cells_of, written_cells}
 
 -- what is held now has all that was written, and the cells of these series, in the slots of their ranges, are an update
--- since then: whoever has what was written, and joins these cells batch by batch, has what is held now
+-- since then: joining these cells, batch by batch, to what was written makes what is held now
 pub record IsUpdateOf (s : Layout) (written now : Cells) (series : List ChangedSeries) : Type 0 where
   pub holds : Holds s now written
   pub update : IsUpdate written now (retain_keys now (is_within s series))

@@ -1,4 +1,4 @@
--- Cells as records of CSV.
+-- Cells as CSV records.
 use Rattle.std.specs.Prelude.{ℕ, ℤ, pos, List, [], ◌∷◌, ◌++◌}
 use Rattle.std.specs.Fmt.{signed_decimal}
 use Rattle.std.specs.Int.{w128, to_be_bytes}
@@ -7,7 +7,7 @@ use Rattle.hex.specs.Hex.{encode_lower}
 use Rattle.rr_cells.specs.CellBounds.{NamedCell}
 use Rattle.rr_cells.specs.FetchText.{comma, field_text, line_feed}
 
--- the numbers of a cell, but its mask
+-- the numbers of a cell, except its mask
 abbrev pub cell_numbers : NamedCell → List ℤ
 cell_numbers e =
     pos e.0.archive ∷ e.0.slot ∷ pos e.0.origin ∷ pos e.1.version ∷ pos e.1.count ∷ e.1.sum ∷ e.1.min ∷ e.1.max ∷
@@ -21,7 +21,7 @@ number_text n = signed_decimal n ++ comma ∷ []
 abbrev pub mask_text : ℕ → List ℕ
 mask_text mask = encode_lower (to_be_bytes w128 mask)
 
--- the key text, these numbers and the mask, a comma between two, and a line feed
+-- the key text, these numbers and the mask, separated by commas, and a line feed
 abbrev pub cell_text : NamedCell → List ℕ
 cell_text e =
     field_text e.0.key ++ comma ∷ [] ++ flat_map number_text (cell_numbers e) ++ mask_text e.1.mask ++ line_feed ∷ []

@@ -1,4 +1,4 @@
--- The printed names of faults, and faults of what stands below.
+-- The printed names of faults, and the faults of lower layers as a file's.
 use Rattle.std.specs.Prelude.{ℕ, List, codes}
 use Rattle.rr_journal.specs.declared.fault.JournalFault.{JournalFault}
 use Rattle.rr_journal.specs.declared.fault.JournalFault.TheVariants as journal
@@ -34,7 +34,7 @@ of_recovery (recovery.BadRecord fault) = file.BadRecord fault
 of_recovery recovery.OriginUsed = file.OriginUsed
 of_recovery recovery.Memory = file.Memory
 
--- of a header: the reader's and memory's are no fault of the bytes
+-- of a header: the reader's and memory's aren't faults of the bytes
 abbrev pub of_header : JournalFault → FileFault
 of_header journal.ReadFailed = file.ReadFailed
 of_header journal.Memory = file.Memory

@@ -23,6 +23,6 @@ abbrev pub file_named : List KnownFile → FileName → Option KnownFile
 file_named [] name = None
 file_named (f ∷ fs) name = if has_name f.name name then Some f else file_named fs name
 
--- its bytes; none where there is no such file
+-- its bytes; none if there is no such file
 abbrev pub bytes_named : List KnownFile → FileName → List ℕ
 bytes_named fs name = unwrap_or (option_map (λ f. f.bytes) (file_named fs name)) []

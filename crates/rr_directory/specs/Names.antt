@@ -4,12 +4,12 @@ use Rattle.rr_directory.specs.declared.name.FileName.{FileName}
 use Rattle.rr_directory.specs.declared.name.FileName.TheVariants.{Journal, Checkpoint}
 use Rattle.rr_directory.specs.declared.name.TheConstants.{DIGITS}
 
--- what follows a piece at the beginning of bytes, or nothing where they do not begin with it
+-- what follows a piece at the beginning of bytes, or none if they don't begin with it
 abbrev pub IsAfter : List ℕ → List ℕ → Option (List ℕ) → Type 0
 IsAfter piece bytes (Some rest) = bytes ≡ piece ++ rest
 IsAfter piece bytes None = (rest : List ℕ) → bytes ≢ piece ++ rest
 
--- so many decimal digits of a number, with leading zeros
+-- this many decimal digits of a number, with leading zeros
 unfoldable pub digits_of : ℕ → ℕ → List ℕ
 digits_of zero n = []
 digits_of (suc count) n = digits_of count (n / 10) ++ (48 + n % 10) ∷ []
@@ -18,7 +18,7 @@ digits_of (suc count) n = digits_of count (n / 10) ++ (48 + n % 10) ∷ []
 abbrev pub offset_text : ℕ → List ℕ
 offset_text offset = digits_of DIGITS offset ++ codes ".rrj"
 
--- a file begins at, or has after it what is from there on, an offset
+-- the offset at which a file of the journal begins, or at which the journal goes on after a checkpoint
 abbrev pub offset_of : FileName → ℕ
 offset_of (Journal offset) = offset
 offset_of (Checkpoint offset) = offset
@@ -36,7 +36,7 @@ abbrev pub IsOffsetText : List ℕ → Option ℕ → Type 0
 IsOffsetText text (Some offset) = (text ≡ offset_text offset) × (offset < 2 ^ 64)
 IsOffsetText text None = (offset : ℕ) → offset < 2 ^ 64 → text ≢ offset_text offset
 
--- bytes are a name's, or no file's
+-- bytes are the text of a name, or of none
 abbrev pub IsName : List ℕ → Option FileName → Type 0
 IsName bytes (Some name) = (bytes ≡ name_text name) × (offset_of name < 2 ^ 64)
 IsName bytes None = (name : FileName) → offset_of name < 2 ^ 64 → bytes ≢ name_text name

@@ -10,23 +10,24 @@ use Rattle.rr_directory.specs.declared.name.FileName.{FileName}
 use Rattle.rr_directory.specs.declared.name.FileName.TheVariants.{Journal, Checkpoint}
 use Rattle.rr_directory.specs.Reading.{IsFileFault, as_file, file_records, named, place_of}
 
--- an origin, or the one before it where there is none
+-- an origin, or if there is none, the one before it
 abbrev pub later : Option ℕ → Option ℕ → Option ℕ
 later None before = before
 later (Some origin) before = Some origin
 
--- that of the last record of one in a file of the journal, or the one before the file
+-- the origin that the last such record in a file of the journal states, or the one before the file
 abbrev pub origin_after_journal : Layout → Option ℕ → FileName → List ℕ → Result (Option ℕ) FileFault
 origin_after_journal s before name bytes =
     place_of s name bytes >>= λ begins. as_file (last_origin None (file_records s begins bytes)) >>= λ origin. Ok
     (later origin before)
 
--- in a file: origins are recorded in the journal alone, so whatever bytes a checkpoint has, none is taken from it
+-- the last one after a file: origins are recorded in the journal alone, so none is taken from a checkpoint, whatever
+-- its bytes
 abbrev pub origin_after : Layout → Option ℕ → FileName → List ℕ → Result (Option ℕ) FileFault
 origin_after s before (Checkpoint offset) bytes = Ok before
 origin_after s before (Journal offset) bytes = origin_after_journal s before (Journal offset) bytes
 
--- in files, or the one before them
+-- the last one after files, or the one before them
 abbrev pub last_origin_in : Layout → (FileName → List ℕ) → Option ℕ → List FileName → Result (Option ℕ) Refusal
 last_origin_in s bytes before [] = Ok before
 last_origin_in s bytes before (name ∷ names) =

@@ -38,7 +38,7 @@ IsFileFault answer fault = (fault ≡ file.ReadFailed) ⊎ (fault ≡ file.Memor
 
 -- ---- where a file begins
 
--- the place that a header names, which has the offset of the file's name
+-- the place that a header names, if its offset is that of the file's name
 abbrev pub named_place : FileName → Result Cursor JournalFault → Result Cursor FileFault
 named_place name begins = as_header begins >>= λ c. unless file.Misnamed (not (c.offset == offset_of name)) (Ok c)
 
@@ -50,11 +50,11 @@ place_of s name bytes = named_place name (header_at s (take (header_len s) bytes
 abbrev pub records_bytes : Layout → List ℕ → List ℕ
 records_bytes s bytes = drop (header_len s) bytes
 
--- where the journal's next file has to begin: at its beginning, if nothing was read of it
+-- where the journal's next file has to begin: at the journal's beginning, if nothing of it was read
 abbrev pub due_place : Option Cursor → Cursor → Cursor
 due_place reached begins = unwrap_or reached (start begins.id)
 
--- why a file that begins here doesn't join what was read up to there
+-- why a file that begins at one place doesn't join what was read up to another
 abbrev pub join_fault : Cursor → Cursor → Option FileFault
 join_fault due begins =
     if not (pointwise nat_eq begins.id due.id) then Some file.OtherJournal
@@ -68,19 +68,20 @@ join_fault due begins =
 abbrev pub bytes_before : Layout → Cursor → Cursor → ℕ
 bytes_before s begins place = moved_by (place.offset - begins.offset) (header_len s)
 
--- why a node doesn't start from a checkpoint whose reading stopped so, with as many cells read as its end says, or not
+-- why a node doesn't start from a checkpoint, by why its reading stopped and whether as many cells were read as its end
+-- states
 abbrev pub checkpoint_fault : Stop → Bool → ℕ → Option FileFault
 checkpoint_fault (Damaged fault) whole at = Some (file.Damaged at fault)
 checkpoint_fault Torn whole at = Some file.Torn
 checkpoint_fault End whole at = if whole then None else Some file.NotWhole
 
--- why it doesn't from a file of the journal, the last one or not
+-- and why it doesn't from a file of the journal, by whether it is the last one
 abbrev pub journal_fault : Stop → Bool → ℕ → Option FileFault
 journal_fault (Damaged fault) last at = Some (file.Damaged at fault)
 journal_fault Torn last at = if last then None else Some file.Torn
 journal_fault End last at = None
 
--- how many bytes are left behind a place, where the tail is torn
+-- how many bytes are left behind a place, if the tail is torn
 abbrev pub torn_len : Stop → ℕ → ℕ → ℕ
 torn_len Torn len at = len - at
 torn_len End len at = 0
@@ -97,7 +98,7 @@ is_whole found = states found.end found.cells
 
 -- ---- files, one after the other
 
--- how far the journal was read, what was recovered, and how many bytes of a torn tail the last file has
+-- how far the journal was read, what was recovered, and how many bytes the torn tail of the last file has
 pub record Reached : Type 0 where
   pub place : Option Cursor
   pub recovery : Recovery
@@ -129,7 +130,7 @@ after_journal s last x begins bytes = do
         torn = torn_len (file_stop s begins bytes) (length bytes) (bytes_before s begins end);
       })
 
--- a file of the journal is read only where it joins what was read
+-- a file of the journal is read only if it joins what was read
 abbrev pub after_joined : Layout → Bool → Reached → Cursor → List ℕ → Result Reached FileFault
 after_joined s last x begins bytes =
     (unless_faulty (join_fault (due_place x.place begins) begins) begins) >>= λ place. after_journal s last x.recovery

@@ -33,7 +33,7 @@ pub record IsNothing (r : Recovered) : Type 0 where
   pub end : r.end ≡ None
   pub torn : r.torn ≡ 0
 
--- the records at a place were taken, which are told by the place behind them and why no more follow
+-- the records at a place were taken; the place behind them is given, and why no more follow
 abbrev pub ReplaysFile : Cursor → List ℕ → Recovery → Recovery → Result (Cursor × Stop) FileFault → Type 0
 ReplaysFile begins bytes old new (Ok x) =
     (as_file (taken_records old (records_of begins.digest bytes).0) ≡ Ok new)

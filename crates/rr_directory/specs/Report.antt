@@ -1,4 +1,4 @@
--- What is said of a directory.
+-- What is reported of a directory.
 use Rattle.std.specs.Prelude.{ℕ, ◌-◌, List, [], ◌∷◌, ◌++◌, codes, Option, None, Some}
 use Rattle.std.specs.Fmt.{decimal}
 use Rattle.rr_journal.specs.declared.step.Stop.{Stop}
@@ -10,7 +10,7 @@ use Rattle.rr_directory.specs.declared.report.FileReport.{FileReport}
 use Rattle.rr_directory.specs.Fault.{file_fault_name}
 use Rattle.rr_directory.specs.Names.{name_text}
 
--- by why the reading of a file of a length stopped at a byte
+-- how a file of a length ends, by why its reading stopped at a byte
 abbrev pub ending_of : Stop → ℕ → ℕ → FileEnding
 ending_of stop.End len at = End
 ending_of stop.Torn len at = Torn (len - at)

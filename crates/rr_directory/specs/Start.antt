@@ -12,22 +12,22 @@ abbrev pub checkpoint_offset : FileName → Option ℕ
 checkpoint_offset (Journal offset) = None
 checkpoint_offset (Checkpoint offset) = Some offset
 
--- the greater of two offsets, or the one that there is
+-- the greater of two offsets, or the only one
 abbrev pub greater : Option ℕ → Option ℕ → Option ℕ
 greater None other = other
 greater (Some one) None = Some one
 greater (Some one) (Some other) = Some (max one other)
 
--- the greatest of offsets, or none where there is none
+-- the greatest of these offsets, or none if there are none
 abbrev pub IsGreatest : List ℕ → Option ℕ → Type 0
 IsGreatest offsets None = offsets ≡ []
 IsGreatest offsets (Some greatest) = Contains offsets greatest × All (λ o. o ≤ greatest) offsets
 
--- the offset of the newest checkpoint, or none where there is no checkpoint
+-- the offset of the newest checkpoint, or none if there is no checkpoint
 abbrev pub IsNewest : List FileName → Option ℕ → Type 0
 IsNewest names newest = IsGreatest (filter_map checkpoint_offset names) newest
 
--- from where on the journal is read
+-- the offset from which the journal is read
 abbrev pub first_offset : Option ℕ → ℕ
 first_offset checkpoint = unwrap_or checkpoint 0
 
@@ -47,8 +47,8 @@ is_needless from name = nat_lt (offset_of name) from
 abbrev pub names_of : Option ℕ → List ℕ → List FileName
 names_of checkpoint offsets = map Checkpoint (option_to_list checkpoint) ++ map Journal offsets
 
--- of the files of these names a start reads the newest checkpoint, and then all of the journal's files from its offset
--- on, in order; those from before are needless
+-- of the files with these names, a start reads the newest checkpoint, and then all of the journal's files from its
+-- offset on, in order; those from before it are needless
 pub record IsStart (names : List FileName) (start : Start) : Type 0 where
   pub checkpoint : Option ℕ
   pub newest : IsNewest names checkpoint

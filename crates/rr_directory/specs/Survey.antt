@@ -1,4 +1,4 @@
--- What reading a file by itself tells.
+-- What reading a file by itself gives.
 use Rattle.std.specs.Prelude.{◌≡◌, ℕ, List, length, Result, Ok, Err}
 use Rattle.rr_text.specs.Results.{◌>>=◌}
 use Rattle.rr_schema.specs.Schema.{Layout}
@@ -15,7 +15,7 @@ use Rattle.rr_directory.specs.Report.{ending_of}
 abbrev pub taken_file : Layout → FileName → Recovery → List ℕ → Result Recovery FileFault
 taken_file s name x bytes = place_of s name bytes >>= λ begins. as_file (taken_records x (file_records s begins bytes))
 
--- the records of a file were taken, and how it ends is told
+-- the records of a file were taken, and how it ends is given
 abbrev pub Surveys : Layout → FileName → List ℕ → Recovery → Recovery → Result FileEnding FileFault → Type 0
 Surveys s name bytes old new (Ok ending) =
     (taken_file s name old bytes ≡ Ok new)

@@ -31,8 +31,8 @@ pub record PackedCells : Type 0 where
 abbrev pub packed_cells : Group → PackedCells
 packed_cells g = record { key = g.key; archive = g.archive; bytes = g.packed.items }
 
--- what a record means: cells; the origin of samples from here on; how far another journal was joined before; or the end
--- of a checkpoint of so many cells
+-- what a record means: cells; the origin of samples from here on; how far another journal was joined; or the end of a
+-- checkpoint with this many cells
 pub data Meaning : Type 0 where
   HasCells : List PackedCells → Meaning
   HasOrigin : ℕ → Meaning
@@ -47,8 +47,8 @@ meaning_of (code.End count) = HasEnded count
 
 -- ---- its text
 
--- the length of the key in two bytes and its text, the archive in one, and the length of the packed cells in four and
--- they
+-- the length of the key in two bytes and its text, the archive in one, the length of the packed cells in four, and the
+-- cells
 unfoldable pub group_text : PackedCells → List ℕ
 group_text g = to_be_bytes w16 (length g.key) ++ (g.key ++ (g.archive ∷ (to_be_bytes w32 (length g.bytes) ++ g.bytes)))
 
@@ -64,7 +64,7 @@ body_text (HasOrigin origin) = to_be_bytes w16 origin
 body_text (HasJoined cursor) = cursor_text cursor
 body_text (HasEnded count) = to_be_bytes w64 count
 
--- why a record of a body isn't written: memory runs out, or the body is too long
+-- why a record with this body isn't written: memory runs out, or the body is too long
 abbrev pub IsEncodeFault : List ℕ → JournalFault → Type 0
 IsEncodeFault body fault = (fault ≡ Memory) ⊎ ((fault ≡ TooLong) × (MAX_BODY_LEN < length body))
 
@@ -87,12 +87,12 @@ archive_at s bytes = do
   archive ← number_at w8 bytes
   unless BadArchive (not (nat_lt archive.0 (length s.archives))) (Ok archive)
 
--- a result of packed cells, with their faults as a journal's
+-- a result of packed cells, its fault as a journal's
 abbrev pub as_packed : {A : Type 0} → Result A CodecFault → Result A JournalFault
 as_packed (Ok x) = Ok x
 as_packed (Err fault) = Err (Packed fault)
 
--- packed cells after their length, as an archive may have them, and what follows them
+-- packed cells after their length, which the archive may have, and what follows them
 unfoldable pub packed_at : Layout → ℕ → List ℕ → Result (List ℕ × List ℕ) JournalFault
 packed_at s archive bytes = do
   len ← number_at w32 bytes
@@ -115,7 +115,7 @@ groups_within (suc n) s bytes = do
   others ← (if length first.1 == 0 then Ok [] else groups_within n s first.1)
   Ok (first.0 ∷ others)
 
--- one or more groups, which all of the bytes are; each has more than one byte
+-- all of the bytes as one or more groups; each has more than one byte
 abbrev pub groups_of : Layout → List ℕ → Result (List PackedCells) JournalFault
 groups_of s bytes = groups_within (suc (length bytes)) s bytes
 
@@ -144,11 +144,11 @@ meaning_at s kind body =
     else (if kind == END then (count_of body >>= λ count. Ok (HasEnded count))
     else Err BadKind)))
 
--- what a record means; whether it is the first one after a sync is no part of that
+-- what a record means, whether or not it is the first one after a sync
 abbrev pub record_meaning : Layout → Raw → Result Meaning JournalFault
 record_meaning s r = meaning_at s (r.kind % FIRST) r.body
 
--- ---- which have a text that is read again
+-- ---- those with a text that is read back
 
 -- a key text, an archive of the schema, and packed cells that it may have
 pub record IsGroup (s : Layout) (g : PackedCells) : Type 0 where

@@ -6,7 +6,7 @@ use Rattle.rr_journal.specs.declared.cursor.TheConstants.{ID_LEN}
 use Rattle.rr_journal.specs.declared.digest.TheConstants.{DIGEST_LEN}
 use Rattle.rr_journal.specs.Text.{Raw, record_len, records_len, after, chain}
 
--- what has a text
+-- a cursor that has a text
 pub record IsCursor (c : Cursor) : Type 0 where
   pub id : length c.id ≡ ID_LEN
   pub offset : c.offset < 2 ^ 64
@@ -20,7 +20,7 @@ start id = record { id = id; offset = 0; digest = replicate DIGEST_LEN 0 }
 unfoldable pub cursor_text : Cursor → List ℕ
 cursor_text c = c.id ++ (to_be_bytes w64 c.offset ++ c.digest)
 
--- an offset so many bytes on; it stops at the greatest one
+-- an offset this many bytes on; it stops at the greatest one
 abbrev pub moved_by : ℕ → ℕ → ℕ
 moved_by len offset = min (offset + len) (2 ^ 64 - 1)
 

@@ -12,6 +12,6 @@ cut_digest text = take DIGEST_LEN (sha256 text)
 abbrev pub undigested_text : ℕ → List ℕ → List ℕ
 undigested_text kind body = to_be_bytes w32 (length body) ++ (kind ∷ body)
 
--- the digest of a record after that of the record before it
+-- the digest of a record, given that of the record before it
 abbrev pub link : List ℕ → ℕ → List ℕ → List ℕ
 link before kind body = cut_digest (before ++ undigested_text kind body)

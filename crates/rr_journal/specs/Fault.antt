@@ -1,4 +1,4 @@
--- The printed names of faults: each is its variant's, or that of the fault below.
+-- The printed names of faults: each is its variant's, or that of the fault within.
 use Rattle.std.specs.Prelude.{◌≡◌, ◌≢◌, ℕ, List, codes, Result, Err, IfErr}
 use Rattle.rr_text.specs.Results.{Gives}
 use Rattle.rr_codec.specs.Fault.{codec_fault_name}
@@ -22,13 +22,13 @@ journal_fault_name BadOrigin = codes "BadOrigin"
 journal_fault_name TrailingBytes = codes "TrailingBytes"
 journal_fault_name Memory = codes "Memory"
 
--- what the bytes are read as is found by its definition, and no memory is taken
+-- the result is the definition's reading of the bytes, and no memory is taken
 pub record Finds {X Y : Type 0} (view : X → Y) (result : Result X JournalFault) (answer : Result Y JournalFault)
     : Type 0 where
   pub read : Gives view result answer
   pub no_memory : result ≢ Err Memory
 
--- what the bytes are read as is checked, and no memory is taken: each fault is the definition's
+-- the bytes are checked, and no memory is taken: each fault is the definition's
 pub record Refuses {X Y : Type 0} (result : Result X JournalFault) (answer : Result Y JournalFault) : Type 0 where
   pub refused : IfErr result (λ fault. answer ≡ Err fault)
   pub no_memory : result ≢ Err Memory

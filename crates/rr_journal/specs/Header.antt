@@ -32,7 +32,7 @@ header_text s c = undigested_header s c ++ cut_digest (undigested_header s c)
 abbrev pub undigested_len : Layout → ℕ
 undigested_len s = BESIDES_LEN + length (schema_bytes s)
 
--- how many bytes it has
+-- how many bytes a header has
 abbrev pub header_len : Layout → ℕ
 header_len s = undigested_len s + DIGEST_LEN
 
@@ -62,8 +62,8 @@ header_at s bytes = do
   check ← prefix_at DIGEST_LEN cursor.1
   unless BadDigest (not (pointwise nat_eq check.0 (cut_digest (take (undigested_len s) bytes)))) (Ok (cursor.0, check.1))
 
--- the header that the first bytes of a stream are, where they are known, was read, and what follows it is left; or the
--- reader failed, or memory ran out
+-- the header at the beginning of a stream, if its bytes are known, was read, and what follows it is left; or it is
+-- refused, the reader failed, or memory ran out
 abbrev pub ReadsHeader : Layout → Option (List ℕ) → Option (List ℕ) → Result Cursor JournalFault → Type 0
 ReadsHeader s old new (Ok c) = IfSome old (λ all. (rest : List ℕ) × (new ≡ Some (drop (header_len s) all))
     × (header_at s (take (header_len s) all) ≡ Ok (c, rest)))

@@ -16,12 +16,12 @@ pub record MemoryState : Type 0 where
 abbrev pub synced_bytes : MemoryState → List ℕ
 synced_bytes j = take j.synced j.bytes
 
--- bytes, where they are known, have others behind them, or none
+-- bytes, if they are known, now have others behind them, or none
 abbrev pub Grows : Option (List ℕ) → Option (List ℕ) → Type 0
 Grows old new = (more : List ℕ) × (new ≡ append_known old more)
 
--- records were committed: what was written, and what is synced, is what was synced before and their text, and the cursor is
--- behind them
+-- records were committed: what is written is synced, and is what was synced before and then their text; and the cursor
+-- is behind them
 pub record Committed (old new text : Option (List ℕ)) (before cursor : Cursor) (rs : List Raw) : Type 0 where
   pub synced : new ≡ append_known old (records_text before.digest rs)
   pub nothing_more : text ≡ new
@@ -33,8 +33,8 @@ pub record NothingDone (old new text : Option (List ℕ)) (before cursor : Curso
   pub nothing_more : text ≡ old
   pub stays : cursor ≡ before
 
--- records were committed, or what was written of them is taken back; or, of a journal that can't be synced or cut back,
--- what is there may have more behind it than is known
+-- records were committed, or what was written of them was taken back; or, if the journal can't be synced or cut back,
+-- what was synced may have more behind it, and the cursor stays
 abbrev pub Commits : Option (List ℕ) → Option (List ℕ) → Option (List ℕ) → Cursor → Cursor → List Raw
     → Result (Unit {0}) CommitFault → Type 0
 Commits old new text before cursor rs (Ok done) = Committed old new text before cursor rs

@@ -1,4 +1,4 @@
--- The reading of records, as a function of the bytes, which is total.
+-- The reading of records, as a total function of the bytes.
 use Rattle.std.specs.Prelude.{ℕ, zero, suc, ◌+◌, nat_le, nat_lt, nat_eq, Bool, ◌&&◌, ◌==◌, List, [], ◌∷◌, ◌++◌, length, take, drop, get_or, Option, None, Some, if◌then◌else◌}
 use Rattle.std.specs.Cmp.Lexicographic.{pointwise}
 use Rattle.std.specs.Int.{w32, from_be_bytes}
@@ -29,7 +29,7 @@ abbrev pub made_of : List ℕ → List ℕ → Raw
 made_of head tail = record { kind = stated_kind head; body = take (stated_len head) tail }
 
 -- whether a head and a tail are a record after a digest: both are whole, the length is not too great, and the digest is
--- its own
+-- the record's own
 unfoldable pub is_whole : List ℕ → List ℕ → List ℕ → Bool
 is_whole before head tail =
     (length head == HEAD_LEN)
@@ -44,7 +44,7 @@ record_after before head rest =
     (made_of head (take (tail_len head) rest), drop (tail_len head) rest)
     else None
 
--- the record at the beginning of bytes after a digest, if one is there, whole, and what follows it
+-- the record at the beginning of bytes after a digest, if a whole one is there, and what follows it
 abbrev pub record_at : List ℕ → List ℕ → Option (Raw × List ℕ)
 record_at before bytes = record_after before (take HEAD_LEN bytes) (drop HEAD_LEN bytes)
 
@@ -61,7 +61,7 @@ first_records zero before bytes = ([], bytes)
 first_records (suc n) before bytes =
     with_first bytes (λ x. first_records n (after before x.0) x.1) (record_at before bytes)
 
--- the records from the beginning of bytes on, up to where none is whole, and what is left; each has more than one byte
+-- the records from the beginning of the bytes up to where none is whole, and what is left; each has more than one byte
 abbrev pub records_of : List ℕ → List ℕ → List Raw × List ℕ
 records_of before bytes = first_records (length bytes) before bytes
 
@@ -71,17 +71,16 @@ followed_by rs x = (rs ++ x.0, x.1)
 
 -- ---- why the reading stopped
 
--- of many bytes: they state too great a length, or have another digest
+-- if many bytes are left: they state too great a length, or have another digest
 abbrev pub fault_at : List ℕ → JournalFault
 fault_at bytes = if nat_lt MAX_BODY_LEN (stated_len (take HEAD_LEN bytes)) then TooLong else BadDigest
 
--- by how many bytes are left: none; no more than a writer leaves unsynced; or more, so that some were damaged that were
--- synced
+-- by how many bytes are left: none; no more than a writer leaves unsynced; or more, so that synced ones are damaged
 abbrev pub stop_at : JournalFault → ℕ → Stop
 stop_at fault left =
     if left == 0 then End else (if nat_le left MAX_UNSYNCED then Torn else Damaged fault)
 
--- where no whole record is at the beginning of these bytes
+-- at bytes that begin with no whole record
 abbrev pub stop_before : List ℕ → Stop
 stop_before bytes = stop_at (fault_at bytes) (length bytes)
 

@@ -13,13 +13,13 @@ use Rattle.rr_journal.specs.Reading.{is_whole, made_of, record_at, stop_at, stop
 abbrev pub IsStreamFault : JournalFault → Type 0
 IsStreamFault fault = (fault ≡ ReadFailed) ⊎ (fault ≡ Memory)
 
--- of some bytes more were taken already: what is left of a stream, and they, say why a reading stopped
+-- why a reading stopped, by how many bytes were taken already and how many are left of the stream, together
 abbrev pub StopsAfter : {E : Type 0} → JournalFault → ℕ → Option (List ℕ) → Result Step E → Type 0
 StopsAfter fault taken old (Ok step) = IfSome old (λ left. step ≡ Stopped (stop_at fault (taken + length left)))
 StopsAfter fault taken old (Err other) = Unit {0}
 
--- what one step tells of the bytes of a stream after a digest: the record at their beginning was read, and what follows it
--- is left; or there is none, and why
+-- what one step says of a stream's bytes after a digest: the record at their beginning was read, and what follows it is
+-- left; or there is none, and why
 abbrev pub IsStep : List ℕ → Step → Option (List ℕ) → List ℕ → Type 0
 IsStep before (Whole r) new all =
     (rest : List ℕ) × (new ≡ Some rest) × (record_at before all ≡ Some (raw_of r, rest))
@@ -46,7 +46,7 @@ abbrev pub IsFitting : Step → Type 0
 IsFitting (Whole r) = Fits (raw_of r)
 IsFitting (Stopped stop) = Unit {0}
 
--- where a head and a tail are a record after a digest, its own one is given
+-- a head and a tail are a record after a digest, and its own digest is given; or they aren't, and none is
 abbrev pub OwnDigest : List ℕ → List ℕ → List ℕ → Option (List ℕ) → Type 0
 OwnDigest before head tail (Some digest) =
     (is_whole before head tail ≡ true) × (digest ≡ after before (made_of head tail))

@@ -18,7 +18,7 @@ raw_of r = record { kind = r.kind; body = r.body.items }
 abbrev pub Fits : Raw → Type 0
 Fits r = length r.body ≤ MAX_BODY_LEN
 
--- each of these is
+-- the bodies of all of these are
 abbrev pub AllFit : List Raw → Type 0
 AllFit rs = AllByRecursion Fits rs
 
@@ -26,11 +26,11 @@ AllFit rs = AllByRecursion Fits rs
 abbrev pub after : List ℕ → Raw → List ℕ
 after before r = link before r.kind r.body
 
--- a record after the digest of the one before it, and its own digest
+-- a record, and its own digest, chained to that of the record before it
 unfoldable pub record_text : List ℕ → Raw → List ℕ
 record_text before r = undigested_text r.kind r.body ++ after before r
 
--- the records after a digest, one after the other, each with the digest of the one before it
+-- the records after a digest, one after the other, each chained to the digest of the one before it
 unfoldable pub records_text : List ℕ → List Raw → List ℕ
 records_text before [] = []
 records_text before (r ∷ rs) = record_text before r ++ records_text (after before r) rs
@@ -49,7 +49,7 @@ abbrev pub records_len : List Raw → ℕ
 records_len [] = 0
 records_len (r ∷ rs) = record_len r + records_len rs
 
--- those of them that are whole within so many bytes
+-- those of them that are whole within this many bytes
 abbrev pub whole_within : ℕ → List Raw → List Raw
 whole_within n [] = []
 whole_within n (r ∷ rs) = if nat_le (record_len r) n then r ∷ whole_within (n - record_len r) rs else []

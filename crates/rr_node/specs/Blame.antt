@@ -26,7 +26,7 @@ pub record WritesOut {W X : Type 0} (old new : Counted W) (result : Result X Nod
 abbrev pub StaysFlushed : {W : Type 0} → Counted W → Counted W → Type 0
 StaysFlushed old new = is_flushed old ≡ true → is_flushed new ≡ true
 
--- the first byte of an input was read, none at its end, by as many reads as are told
+-- the first byte of an input was read, or none at its end, in as many reads as are given
 pub record ReadsFirst {R : Type 0} (remaining : R → Option (List ℕ)) (old new : Counted R)
     (result : Result (Option ℕ × ℕ) NodeFault) : Type 0 where
   pub bytes : IfOk result (λ first. Consumes (remaining (inner_of old)) (remaining (inner_of new))

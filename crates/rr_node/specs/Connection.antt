@@ -35,7 +35,7 @@ IsAnswer (put p time) (says.Put count) = count ≡ length p.fields
 IsAnswer (refused name) (says.Refused text) = text.now ≡ name
 IsAnswer verdict answer = ⊥
 
--- the lines that a line of these answers adds to the answers, and the report with it
+-- what a line with this answer adds to the answers, and the report with it
 abbrev pub text_to : ℕ → Answer → List ℕ
 text_to number says.Nothing = []
 text_to number (says.Put count) = []
@@ -46,7 +46,7 @@ counted_in r says.Nothing = r
 counted_in r (says.Put count) = record { points = r.points + 1; samples = r.samples + count; refused = r.refused }
 counted_in r (says.Refused text) = record { points = r.points; samples = r.samples; refused = r.refused + 1 }
 
--- no more samples than a line has fields
+-- no more samples than a line may have fields
 abbrev pub IsFew : Answer → Type 0
 IsFew says.Nothing = Unit {0}
 IsFew (says.Put count) = count ≤ MAX_FIELDS
@@ -74,13 +74,13 @@ abbrev pub TakenNow : Option ℕ → PointView → KeeperState → KeeperState �
 TakenNow lead p old new given since result =
     (now : ℤ) × HasGiven given since (now ∷ []) × Handled (verdict_of_point lead now (own_replica old) p) old new result
 
--- a point is taken, which has no more samples than a line has fields
+-- a point is taken, and has no more samples than a line may have fields
 pub record TakesPoint (lead : Option ℕ) (p : PointView) (old new : KeeperState) (given since : Option (List ℤ))
     (result : Result Answer AllocError) : Type 0 where
   pub taken : TakenNow lead p old new given since result
   pub count_fits : IfOk result IsFew
 
--- samples are taken as a point that says them and no others, at this time or none
+-- samples are taken as a point with them and no others, at this time or none
 pub record TakesSamples (lead : Option ℕ) (samples : List Sample) (time : Option ℤ) (old new : KeeperState)
     (given since : Option (List ℤ)) (result : Result Answer AllocError) : Type 0 where
   pub taken : (p : PointView) → samples_of p ≡ samples → p.time ≡ time → TakenNow lead p old new given since result
@@ -94,18 +94,18 @@ pub record HandledItem (rules : Rules) (item : Item) (old new : KeeperState) (gi
   pub taken : HandledAt rules item asked old new result
   pub count_fits : IfOk result IsFew
 
--- a line that is refused is answered by the name of its fault, unless memory ran out
+-- a refused line is answered with the name of its fault, unless memory ran out
 pub record Refuses (fault : LineFault) (result : Result Answer AllocError) : Type 0 where
   pub named : IfOk result (IsAnswer (refused (line_fault_name fault)))
   pub read : OnOk result (fault ≢ Memory)
   pub count_fits : IfOk result IsFew
 
--- a connection can take in a piece: the number of pieces fits, and the piece is not too long
+-- a connection can take a piece: the number of pieces fits, and the piece is not too long
 pub record ConnectionMayTake (c : Connection) (piece : List ℕ) : Type 0 where
   pub pieces_fit : c.pieces + 1 < 2 ^ 32
   pub fits : length piece ≤ PIECE
 
--- a piece was taken in
+-- a piece was taken
 pub record ConnectionTakesPiece (old new : Connection) (piece : List ℕ) : Type 0 where
   pub feed : new.feed ≡ state (old.feed.left ++ piece) old.feed.skipping old.feed.ended
   pub pieces : new.pieces ≡ old.pieces + 1
@@ -123,7 +123,7 @@ served_so_far c keeper answers moments = record {
   report = c.report;
 }
 
--- of the bytes that were pushed, what was handed out was served with these moments, whatever the clock gives later
+-- what was handed out of the bytes that were pushed was served with these moments, whatever the clock gives later
 pub record HasServed (c : Connection) (start : KeeperState) (pushed : List ℕ) (moments : List ℤ) (now : KeeperState)
     (answers : List ℕ) : Type 0 where
   pub handed : List Item
@@ -131,7 +131,7 @@ pub record HasServed (c : Connection) (start : KeeperState) (pushed : List ℕ) 
   pub asked : length moments ≡ count_by (asks_clock c.rules) handed
   pub served : (later : List ℤ) → after c.rules start (moments ++ later) handed ≡ served_so_far c now answers later
 
--- no line came yet of a connection with these rules
+-- no line has come yet on a connection with these rules
 pub record IsNew (expected : Rules) (c : Connection) : Type 0 where
   pub feed : c.feed ≡ empty_feed
   pub pieces : c.pieces ≡ 0
@@ -158,8 +158,8 @@ pub record ServedAllItems (old new : Connection) (before now : KeeperState) (mom
 
 -- ---- among the writes of others
 
--- these items were handed out, and served from a keeper on with these moments and answers, whatever was served before, for
--- this connection or for others, and whatever the clock gives later
+-- these items were handed out, and served, starting with a keeper, with these moments and answers, whatever was served
+-- before, for this connection or for others, and whatever the clock gives later
 pub record ServesAmong (old new : Connection) (before now : KeeperState) (handed : List Item) (moments : List ℤ)
     (answers : List ℕ) : Type 0 where
   pub fed : (pushed : List ℕ) (earlier : List Item) → IsFed pushed earlier old.feed
@@ -182,8 +182,8 @@ pub record ServesAllAmong (old new : Connection) (before now : KeeperState) (han
 abbrev pub ComesAfter : FeedState → List ℕ → List ℕ → Type 0
 ComesAfter feed pushed bytes = (more : List ℕ) × (bytes ≡ pushed ++ more) × MayCome feed more true
 
--- these lines, which are a prefix of the items whatever comes, were served with these moments, and the first operations
--- of one more; or they are all of them, and all was published
+-- these lines, which are a prefix of the items whatever comes, were served with these moments, and so were the first
+-- operations of one more; or they are all of them, and all was published
 pub record EndsWithin (rules : Rules) (start now : KeeperState) (Comes : List ℕ → Type 0) (moments : List ℤ)
     : Type 0 where
   pub lines : List Item
@@ -219,14 +219,14 @@ StoppedWriting old before now moments written since =
     → HasServed old start pushed given before text
     → Appends first written text → Stops old.rules start now (ComesAfter old.feed pushed) (given ++ moments) first since
 
--- so it did at the end of the input, of which no more comes
+-- so it did at the end of the input, after which no more comes
 abbrev pub StoppedAtEnd : Connection → KeeperState → KeeperState → List ℤ → Option (List ℕ) → Option (List ℕ) → Type 0
 StoppedAtEnd old before now moments written since =
     (start : KeeperState) (pushed : List ℕ) (given : List ℤ) (text : List ℕ) (first : Option (List ℕ))
     → HasServed old start pushed given before text
     → Appends first written text → Stops old.rules start now (λ bytes. bytes ≡ pushed) (given ++ moments) first since
 
--- all lines of the input were served, which has no more than was pushed
+-- all lines of the input were served, which is no more than what was pushed
 pub record IsWhole (rules : Rules) (start now : KeeperState) (counted : Report) (bytes : List ℕ) (moments : List ℤ)
     (written since : Option (List ℕ)) : Type 0 where
   pub asked : length moments ≡ count_by (asks_clock rules) (items true bytes)
@@ -241,8 +241,8 @@ ServedAll old before now counted moments written since =
     → HasServed old start pushed given before text
     → Appends first written text → IsWhole old.rules start now counted pushed (given ++ moments) first since
 
--- the clock was renewed, all lines that came were served, and what is answered to them was written and passed on; or
--- memory ran out or a write failed, and the lines were served so far
+-- the clock was renewed, all lines that came were served, and their answers were written and passed on; or memory ran
+-- out or a write failed, and the lines were served up to there
 pub record AnswersLines {C W X : Type 0} (given : C → Option (List ℤ)) (renewals : C → ℕ)
     (contents : W → Option (List ℕ)) (old new : Connection) (before now : KeeperState) (clock clock_new : C)
     (output output_new : Counted W)
@@ -255,8 +255,8 @@ pub record AnswersLines {C W X : Type 0} (given : C → Option (List ℤ)) (rene
   pub flushed : OnOk result (StaysFlushed output output_new)
   pub writes : WritesOut output output_new result
 
--- the clock was renewed, the lines of the whole input were served, all was published, and all answers and the report were
--- written and passed on; or memory ran out or a write failed, and the lines were served so far
+-- the clock was renewed, the lines of the whole input were served, all was published, and all answers and the report
+-- were written and passed on; or memory ran out or a write failed, and the lines were served up to there
 pub record Finishes {C W : Type 0} (given : C → Option (List ℤ)) (renewals : C → ℕ) (contents : W → Option (List ℕ))
     (old : Connection) (before now : KeeperState) (clock clock_new : C) (output output_new : Counted W)
     (result : Result Report NodeFault)

@@ -11,7 +11,7 @@ use Rattle.rr_host.specs.Streams.{Stream}
 use Rattle.rr_node.specs.declared.fault.NodeFault.{NodeFault}
 use Rattle.rr_node.specs.declared.fault.NodeFault.TheVariants as node
 
--- each is its variant's, and that of a session's fault is the session's
+-- each is its variant's; that of a session's fault is the session's
 abbrev pub node_fault_name : NodeFault → List ℕ
 node_fault_name node.ReadFailed = codes "ReadFailed"
 node_fault_name node.WriteFailed = codes "WriteFailed"
@@ -77,7 +77,7 @@ is_memory node.BadAddress = false
 is_memory (node.Session fault) = false
 is_memory node.Memory = true
 
--- where a stream is to blame for the fault of its connection, its calls tell it
+-- if a stream is to blame for the fault of its connection, its calls show it
 abbrev pub IsToBlame : Stream → Stream → NodeFault → Type 0
 IsToBlame before after node.ReadFailed = HasRisen before.input.failures after.input.failures
 IsToBlame before after node.WriteFailed = HasRisen before.output.failures after.output.failures

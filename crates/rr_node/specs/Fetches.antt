@@ -31,7 +31,7 @@ use Rattle.rr_node.specs.Fault.{IsOfLines, IsInputFault, IsOfSession, of_session
 
 -- ---- one line
 
--- what follows the word `fetch` and a space, where a line begins so
+-- what follows the word `fetch` and a space, if a line begins with them
 abbrev pub after_fetch : List ℕ → Option (List ℕ)
 after_fetch line = option_and_then (λ cut. if pointwise nat_eq cut.0 (codes "fetch") then Some cut.1 else None)
     (cut_at SPACE line)
@@ -54,7 +54,7 @@ request_of_item s TooLong = Err (codes "LineTooLong")
 abbrev pub error_text : List ℕ → List ℕ
 error_text name = codes "error " ++ name ++ LINE_FEED ∷ []
 
--- the answer by the cells, and by whether the gate lets it pass where it is asked
+-- the answer by the cells, and by whether the gate, if it is asked, lets it pass
 abbrev pub text_by : Layout → Cells → Bool → Result Request (List ℕ) → List ℕ
 text_by s m passes (Err name) = error_text name
 text_by s m true (Ok q) = cells_text s m q
@@ -68,7 +68,7 @@ calls_by false (Ok q) = Before false ∷ []
 
 -- ---- one line after the other
 
--- a reader, and the calls of its gate, where they are known
+-- a reader, and the calls of its gate, if they are known
 pub record ReaderAndGate : Type 0 where
   pub reader : ReaderState
   pub calls : Option (List GateCall)
@@ -116,14 +116,14 @@ abbrev pub is_pull : List ℕ → Bool
 is_pull [] = false
 is_pull (byte ∷ bytes) = byte == 0
 
--- the answers to all lines of these bytes were written; the last one may lack its line feed where they have ended
+-- the answers to all lines of these bytes were written; the last line may lack its line feed if they have ended
 pub record HasAnswered (ended : Bool) (bytes : List ℕ) (old new : ReaderAndGate) (before after : Option (List ℕ)) : Type
     0 where
   pub text : List ℕ
   pub answered : AreAnswered (items ended bytes) old new text
   pub written : Appends before after text
 
--- those to all lines that came whole were, by these bytes and those that were taken of the input
+-- those to all lines that came whole were, in these bytes and those that were taken from the input
 abbrev pub HasAnsweredTaken : List ℕ → Option (List ℕ) → Option (List ℕ) → ReaderAndGate → ReaderAndGate
     → Option (List ℕ) → Option (List ℕ) → Type 0
 HasAnsweredTaken bytes had left old new before after =
@@ -169,9 +169,9 @@ HasNotGiven fault s m bytes left before after =
     (((fault ≡ ReadFailed) ⊎ (fault ≡ TooManyReads)) × (after ≡ before))
     ⊎ HasFailedSession s m (Some (drop 1 bytes)) left before after fault
 
--- What a call that serves a connection does, by what it answers. Of the input it was handed what it had, and what is
--- left; of the output what was written before and after. Each line is answered before the next read: so it was wherever
--- a read fails, and where no more may be made.
+-- What a call that serves a connection does, by what it returns. Of the input there is what it had and what is left; of
+-- the output, what was written before and after. Each line is answered before the next read: so all were when a read
+-- fails, or when no more may be made.
 pub record IsServed {X : Type 0} (result : Result X NodeFault) (had left before after : Option (List ℕ))
     (old new : ReaderAndGate) : Type 0 where
   pub seen : HasSeenMore old.reader new.reader

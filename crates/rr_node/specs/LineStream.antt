@@ -18,15 +18,15 @@ rules_by s = s.connection.rules
 abbrev pub report_of : LineStream → Report
 report_of s = s.connection.report
 
--- the whole lines of these bytes were taken from a keeper on, with these moments, answers and what the keeper is now;
--- the stream goes on
+-- the whole lines of these bytes were taken, starting with a keeper, with these moments, these answers and the keeper
+-- as it is now; the stream goes on
 pub record HasTaken (s : LineStream) (start : KeeperState) (bytes : List ℕ) (moments : List ℤ) (now : KeeperState)
     (answers : List ℕ) : Type 0 where
   pub served : HasServed s.connection start bytes moments now answers
   pub whole : items_left s.connection.feed ≡ []
   pub going : s.connection.feed.ended ≡ false
 
--- a stream has taken these bytes more, whatever it had taken before
+-- a stream has also taken these bytes, whatever it had taken before
 pub record Takes (old new : LineStream) (before now : KeeperState) (bytes : List ℕ) (moments : List ℤ)
     (answers : List ℕ) : Type 0 where
   pub taken : (start : KeeperState) (came : List ℕ) (given : List ℤ) (answered : List ℕ)
@@ -62,24 +62,24 @@ Ends old before now moments answers counted =
 
 -- ---- among the writes of others
 
--- a stream with a keeper, where these answers were added, and these moments are to come
+-- a stream with a keeper, these answers added and these moments to come
 abbrev pub stands : LineStream → KeeperState → List ℕ → List ℤ → Served
 stands s keeper answers moments = served_so_far s.connection keeper answers moments
 
--- of the bytes that came these lines were handed out, which are all that are whole; more may come
+-- these lines were handed out of the bytes that came, and are all that are whole; more may come
 pub record HasHanded (s : LineStream) (came : List ℕ) (handed : List Item) : Type 0 where
   pub fed : IsFed came handed s.connection.feed
   pub whole : items_left s.connection.feed ≡ []
   pub going : s.connection.feed.ended ≡ false
 
--- a stream of which nothing came
+-- a stream of which nothing has come
 pub record IsFresh (s : LineStream) : Type 0 where
   pub handed : HasHanded s [] []
   pub lines : s.connection.lines ≡ 0
   pub report : report_of s ≡ record { points = 0; samples = 0; refused = 0 }
 
--- a stream has taken these bytes more: it handed out these lines, which were served from a keeper on, with the numbers
--- that follow those of its lines before; whatever others wrote since these
+-- a stream has also taken these bytes: it handed out these lines, which were served, starting with a keeper, under the
+-- numbers that follow those of its earlier lines; whatever others wrote since those
 pub record TakesAmong (old new : LineStream) (before now : KeeperState) (bytes : List ℕ) (handed : List Item)
     (moments : List ℤ) (answers : List ℕ) : Type 0 where
   pub fed : (came : List ℕ) (earlier : List Item) → HasHanded old came earlier
@@ -89,8 +89,8 @@ pub record TakesAmong (old new : LineStream) (before now : KeeperState) (bytes :
       ≡ stands new now answers later
   pub rules : rules_by new ≡ rules_by old
 
--- a stream ended: with these lines, which were served from a keeper on, it has handed out all lines of the bytes that
--- came; whatever others wrote before
+-- a stream ended: with these lines, which were served, starting with a keeper, it has handed out all lines of the bytes
+-- that came; whatever others wrote before
 pub record EndsAmong (old : LineStream) (before now : KeeperState) (handed : List Item) (moments : List ℤ)
     (answers : List ℕ) (counted : Report) : Type 0 where
   pub lines : ℕ

@@ -38,7 +38,7 @@ pub data Verdict : Type 0 where
   put : (p : PointView) (time : ℤ) → Verdict
   refused : (name : List ℕ) → Verdict
 
--- a point is refused where it is ahead of the clock, and where fewer numbers are left than it has fields
+-- a point is refused if it is ahead of the clock, or if fewer numbers are left than it has fields
 abbrev pub verdict_by : (ahead lacking : Bool) → PointView → ℤ → Verdict
 verdict_by ahead lacking p time =
     if ahead then refused (codes "AheadOfClock")
@@ -58,7 +58,7 @@ abbrev pub verdict_of : Rules → ℤ → ReplicaState → Item → Verdict
 verdict_of rules now h (Line bytes) = verdict_of_line rules.lead now h (reading rules.precision bytes)
 verdict_of rules now h TooLong = refused (codes "LineTooLong")
 
--- the clock is asked for a moment for each point, one with a time of its own too
+-- the clock is asked for a moment for each point, even one with a time of its own
 abbrev pub is_point : Result LineView LineFault → Bool
 is_point (Ok nothing) = false
 is_point (Ok (point p)) = true
@@ -70,7 +70,7 @@ asks_clock rules TooLong = false
 
 -- ---- one line after the other
 
--- a connection after some lines: its keeper, the moments that come, how many lines there were, the answers to them, and
+-- a connection after some lines: its keeper, the moments to come, how many lines there were, the answers to them, and
 -- the report so far
 pub record Served : Type 0 where
   pub keeper : KeeperState
@@ -119,7 +119,7 @@ report_with r (put p time) = record {
 }
 report_with r (refused name) = record { points = r.points; samples = r.samples; refused = r.refused + 1 }
 
--- all that is pending is published each time the lines are a multiple of LINES_TO_PUBLISH
+-- all that is pending is published each time the number of lines is a multiple of LINES_TO_PUBLISH
 abbrev pub published_after : ℕ → KeeperState → KeeperState
 published_after lines k = if lines % LINES_TO_PUBLISH == 0 then with_all_published k else k
 
@@ -132,7 +132,7 @@ with_verdict s verdict moments = record {
   report = report_with s.report verdict;
 }
 
--- after one line more: a point takes the first of the moments that come
+-- after one more line: a point takes the first of the moments to come
 abbrev pub with_item : Rules → Served → Item → Served
 with_item rules s item =
     with_verdict s (verdict_of rules (first_of s.moments) (own_replica s.keeper) item)
@@ -163,7 +163,7 @@ report_text r =
 abbrev pub answer_of : Served → List ℕ
 answer_of s = s.answers ++ report_text s.report
 
--- how a keeper, a clock, an input and an output were before a call, and how they are after it
+-- a keeper, a clock, an input and an output, before a call and after it
 pub record Run : Type 0 where
   pub old : KeeperState
   pub new : KeeperState
@@ -174,8 +174,8 @@ pub record Run : Type 0 where
   pub written : Option (List ℕ)
   pub written_since : Option (List ℕ)
 
--- the lines of the input, where that is known, were served to the end, with the moments that the clock gave, one for
--- each point; then all was published, and all was answered; readers may see what they saw, and more
+-- the lines of the input, if that is known, were served to the end, with the moments that the clock gave, one for each
+-- point; then all was published, and all was answered; readers may see what they saw, and more
 pub record IsServed (rules : Rules) (run : Run) (counted : Report) : Type 0 where
   pub lines : List Item
   pub moments : List ℤ
@@ -193,7 +193,7 @@ keeper_with_some k skipped count = k
 keeper_with_some k (put p time) count = with_puts k p time (take count p.fields)
 keeper_with_some k (refused name) count = k
 
--- within the first of these lines, or before it: of its operations the first ones are pending
+-- within the first of these lines, or before it: the first of its operations are pending
 abbrev pub keeper_within : Rules → Served → List Item → ℕ → KeeperState
 keeper_within rules s [] count = s.keeper
 keeper_within rules s (item ∷ later) count =
@@ -221,7 +221,7 @@ pub record HasStopped (rules : Rules) (run : Run) : Type 0 where
       ⊎ ((later : List ℤ) → IfSome run.input (λ bytes.
       AppendsPrefix run.written run.written_since (after rules run.old (moments ++ later) (items true bytes)).answers))
 
--- the lines that came whole, all of which were served and answered; nothing else was
+-- all lines that came whole were served and answered, and nothing else was
 pub record HasServedWhole (rules : Rules) (run : Run) : Type 0 where
   pub came : List ℕ
   pub moments : List ℤ
@@ -231,8 +231,8 @@ pub record HasServedWhole (rules : Rules) (run : Run) : Type 0 where
   pub keeper : run.new ≡ (after rules run.old moments (items false came)).keeper
   pub answered : Appends run.written run.written_since (after rules run.old moments (items false came)).answers
 
--- A call that serves lines: what became of them, or what stands where it failed. Each line is served and answered before
--- the next read: so it was wherever a read fails, and where no more may be made.
+-- A call that serves lines: what became of them, or how things stand where it failed. Each line is served and answered
+-- before the next read: so all were when a read fails, or when no more may be made.
 pub record ServesLines {W : Type 0} (rules : Rules) (run : Run) (output output_new : Counted W)
     (result : Result Report NodeFault) : Type 0 where
   pub served : IfOk result (IsServed rules run)
@@ -243,7 +243,7 @@ pub record ServesLines {W : Type 0} (rules : Rules) (run : Run) (output output_n
   pub faults : IfErr result IsOfLines
   pub write_failed : result ≡ Err WriteFailed → HasFailed output output_new
 
--- a call that serves the lines of an input, and reads it at most so often
+-- a call that serves the lines of an input, and reads it at most this many times
 pub record ServesWithin {R W : Type 0} (most : ℕ) (rules : Rules) (run : Run) (input input_new : Counted R)
     (output output_new : Counted W) (result : Result Report NodeFault) : Type 0 where
   pub lines : ServesLines rules run output output_new result

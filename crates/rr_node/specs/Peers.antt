@@ -23,8 +23,8 @@ EndsSession old new before after (Some fault) =
     (why : GossipFault) × (fault ≡ of_session_fault why) × IsToBlame before after fault
     × HasStoppedPulling old new before.input.left after.input.left before.output.written after.output.written why
 
--- the peer at an address isn't due, and nothing is done; or it is due, and can't be reached; or it is reached then, and
--- its stream is handed back when the session is over
+-- the peer at an address isn't due, and nothing is done; or it is due, and can't be reached; or it is reached, and its
+-- stream is handed back when the session is over
 abbrev pub EndsPull : List ℕ → KeeperState → KeeperState → List DialCall → Option NodeFault → Type 0
 EndsPull address old new dialed fault =
     ((dialed ≡ passed_over address ∷ []) × (new ≡ old) × (fault ≡ None))
@@ -32,18 +32,18 @@ EndsPull address old new dialed fault =
     ⊎ ((before after : Stream) × (dialed ≡ due address ∷ reached address before ∷ handed_back after ∷ [])
     × EndsSession old new before after fault)
 
--- what is told of a peer's fault, if it had one
+-- what is reported of a peer's fault, if it had one
 abbrev pub reported_of : ℕ → Option NodeFault → List ShelfCall
 reported_of number None = []
 reported_of number (Some fault) = peer_failed number fault ∷ []
 
--- what is told of a peer that is done with, by whether the keeper's next number rose meanwhile: it puts no sample in a
--- pull, so then a cell of its own origin came that it never wrote
+-- what is reported of a peer that is done with, by whether the keeper's next number rose meanwhile: it puts no sample
+-- in a pull, so if it rose, a cell of its own origin came that it never wrote
 abbrev pub reported_of_peer : ℕ → Bool → Option NodeFault → List ShelfCall
 reported_of_peer number false fault = reported_of number fault
 reported_of_peer number true fault = own_origin number ∷ reported_of number fault
 
--- a peer is done with, and what ended it is told
+-- a peer is done with, and what ended it is reported
 pub record IsPast (number : ℕ) (address : List ℕ) (old new : KeeperState) (dialed : List DialCall)
     (reported : List ShelfCall) : Type 0 where
   pub fault : Option NodeFault
@@ -51,7 +51,7 @@ pub record IsPast (number : ℕ) (address : List ℕ) (old new : KeeperState) (d
   pub pulled : EndsPull address old new dialed fault
   pub reported_so : reported ≡ reported_of_peer number (nat_lt old.next new.next) fault
 
--- the pulls from these peers, of which the first has this number, go on to the last, or until memory runs out in one
+-- the pulls from these peers, the first of which has this number, go on to the last, or until memory runs out in one
 abbrev pub EndsPulls : Bool → ℕ → List (List ℕ) → KeeperState → KeeperState → List DialCall → List ShelfCall → Type 0
 EndsPulls whole number [] old new dialed reported = (whole ≡ true) × (new ≡ old) × (dialed ≡ []) × (reported ≡ [])
 EndsPulls whole number (address ∷ later) old new dialed reported =

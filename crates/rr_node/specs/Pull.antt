@@ -16,14 +16,14 @@ use Rattle.rr_gossip.specs.Transcript.{waiting}
 abbrev pub frames_of : KeeperState → List (List ℕ)
 frames_of k = sent_by k.schema (cells_of k)
 
--- all of its frames were sent, no more than a session may have, and all cells that the peer answered are joined, one by one and in order, as operations
--- that are pending
+-- all cells that the peer answered to all of its frames are joined, one by one and in order, as pending operations
 pub record IsJoined (old joined : KeeperState) (had left : Option (List ℕ)) : Type 0 where
   pub cells : List NamedCell
   pub kept : HasJoined old joined cells
   pub pulled : HasPulled old.schema (waiting (length (frames_of old)) 0 MAX_FRAMES) had left cells
 
--- that was done, and then all that is pending was published
+-- all of its frames were sent, no more than a session may have; that was done; and then all that is pending was
+-- published
 pub record HasPulledAll (old new : KeeperState) (had left wrote written : Option (List ℕ)) : Type 0 where
   pub few : length (frames_of old) ≤ MAX_FRAMES
   pub sent : Appends wrote written (concat (frames_of old))

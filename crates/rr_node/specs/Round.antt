@@ -20,18 +20,18 @@ use Rattle.rr_node.specs.Peers.{EndsPulls}
 use Rattle.rr_node.specs.Saving.{EndsSave}
 use Rattle.rr_host.specs.Visits.{Call, Failed, Gave, Over, TookBack}
 
--- what came; nothing where memory ran out
+-- what came, or none after a fault
 abbrev pub came_in : {A F : Type 0} → Result A F → Option A
 came_in (Ok came) = Some came
 came_in (Err fault) = None
 
--- what a connection is, by what became of its lines: its report is told if they were served to the end, and memory
--- alone ends the round
+-- what came of a connection, by what became of its lines: its report, if they were served to the end; and memory alone
+-- ends the round
 abbrev pub going_on : Result Report NodeFault → Option Lines
 going_on (Ok report) = Some (lines.Taken (Some report))
 going_on (Err fault) = if is_memory fault then None else Some (lines.Taken None)
 
--- what the keeper and the clock were before a connection and are after it, and its stream
+-- the keeper and the clock, before a connection and after it, and its stream
 abbrev pub run_of : KeeperState → KeeperState → Option (List ℤ) → Option (List ℤ) → Stream → Stream → Run
 run_of old new given since before after = record {
   old = old;
@@ -68,14 +68,14 @@ EndsLines config came old new given since calls =
 abbrev pub peers_of : Config → List (List ℕ)
 peers_of config = map string_bytes config.peers.items
 
--- after the pulls a shelf is told how many samples no archive kept, and that they are over; how many cells there are, if
--- it wants that
+-- after the pulls, a shelf is told how many samples no archive kept, and that the pulls are over, with the number of
+-- cells if it wants that
 abbrev pub end_of_pulls : KeeperState → Bool → List ShelfCall
 end_of_pulls k wanted =
     past_horizon (past_horizon_of k) ∷ counts wanted
     ∷ pulled (if wanted then Some (at_most_usize (len (cells_of k))) else None) ∷ []
 
--- the pulls from all peers, of whose end it is told, and then a save; memory may run out in either
+-- the pulls from all peers, whose end it is told, and then a save; memory may run out in either
 abbrev pub EndsRest : Config → Option Bool → KeeperState → KeeperState → List DialCall → List ShelfCall → Type 0
 EndsRest config came old new dialed shelved =
     ((came ≡ None) × EndsPulls false 1 (peers_of config) old new dialed shelved)
@@ -83,8 +83,8 @@ EndsRest config came old new dialed shelved =
     × (((came ≡ Some true) × EndsSave true new saved) ⊎ ((came ≡ None) × EndsSave false new saved))
     × (shelved ≡ reported ++ (end_of_pulls new wanted ++ saved)))
 
--- a whole round: where no connection will come, and where memory ran out in one, there is nothing else; else the shelf
--- is told the connection's report first
+-- a whole round: if no connection will come, or if memory ran out in one, there is nothing else; otherwise the shelf is
+-- told the connection's report first
 abbrev pub EndsRound : Config → Option Bool → KeeperState → KeeperState → Option (List ℤ) → Option (List ℤ) → List Call
     → List DialCall → List ShelfCall → Type 0
 EndsRound config came old new given since calls dialed shelved =

@@ -41,7 +41,7 @@ AreRounds (suc n) config old new log =
     × IsRound config (Some true) mid new last
     × (log ≡ and_then first last)
 
--- fewer rounds than these, and one more that ended otherwise
+-- fewer rounds than this, and one more that ended otherwise
 pub record AreFewer (most : ℕ) (config : Config) (came : Option Bool) (old new : KeeperAndClock) (log : Log)
     : Type 0 where
   pub n : ℕ
@@ -53,17 +53,17 @@ pub record AreFewer (most : ℕ) (config : Config) (came : Option Bool) (old new
   pub ended : IsRound config came mid new last
   pub whole : log ≡ and_then first last
 
--- the rounds until as many were kept as may be, until no connection will come, or until memory runs out
+-- the rounds up to as many as there may be, until no connection will come, or until memory runs out
 abbrev pub EndRounds : ℕ → Config → Bool → KeeperAndClock → KeeperAndClock → Log → Type 0
 EndRounds most config true old new log = AreRounds most config old new log
     ⊎ AreFewer most config (Some false) old new log
 EndRounds most config false old new log = AreFewer most config None old new log
 
--- as many rounds as a configuration has: 0 means without end, which is as many as 64 bits count
+-- how many rounds a configuration has: 0 means without end, which is as many as 64 bits can count
 abbrev pub rounds_of : Config → ℕ
 rounds_of config = if config.rounds == 0 then 2 ^ 64 - 1 else config.rounds
 
--- The rounds of a configuration, as far as memory goes: the calls of lines, dial and shelf that were known before, and
+-- The rounds of a configuration, as far as memory lasts: the calls of lines, dial and shelf that were known before, and
 -- those that are known after them, and what the keeper and its clock became.
 pub record HasKept (config : Config) (whole : Bool) (visits visits_since : Option (List Call))
     (dials dials_since : Option (List DialCall)) (shelves shelves_since : Option (List ShelfCall))
@@ -74,12 +74,12 @@ pub record HasKept (config : Config) (whole : Bool) (visits visits_since : Optio
   pub shelved : Grows shelves shelves_since log.shelved
   pub rounds : EndRounds (rounds_of config) config whole old new log
 
--- the calls of a halt, by whether memory sufficed for the rounds: one where it ran out
+-- the calls of a halt, by whether memory sufficed for the rounds: one if it ran out
 abbrev pub halts : Bool → List HaltCall
 halts true = []
 halts false = Halted ∷ []
 
--- the rounds of a configuration were kept, as far as memory goes, and the node was halted if memory ran out in them
+-- the rounds of a configuration were kept, as far as memory lasts, and the node was halted if memory ran out in them
 pub record KeepsOrHalts (config : Config) (whole : Bool) (visits visits_since : Option (List Call))
     (dials dials_since : Option (List DialCall)) (shelves shelves_since : Option (List ShelfCall))
     (ends ends_since : Option (List HaltCall)) (old new : KeeperAndClock) : Type 0 where

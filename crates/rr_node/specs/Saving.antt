@@ -17,7 +17,7 @@ use Rattle.rr_node.specs.Shelf.{ShelfCall, opened, put_back, save_failed, unopen
 abbrev pub snapshot_of : KeeperState → List ℕ
 snapshot_of k = snapshot_text latest k.schema k.origin (entries (cells_of k))
 
--- what a shelf is told of a save: that it failed, unless memory ran out
+-- what a shelf is told of a save: that it failed, if the writer did or there are too many cells
 abbrev pub reported_of_save : Result (Unit {0}) SaveFault → List ShelfCall
 reported_of_save (Ok x) = []
 reported_of_save (Err why.Memory) = []
@@ -31,8 +31,8 @@ sufficed (Err why.Memory) = false
 sufficed (Err why.WriteFailed) = true
 sufficed (Err why.TooManyCells) = true
 
--- a writer was opened, all of the snapshot was written, or a prefix of it as the writer failed or memory ran out, or
--- none as there are too many cells; and the writer was handed back
+-- a writer was opened; all of the snapshot was written, or a prefix of it because the writer failed or memory ran out,
+-- or nothing because there are too many cells; and the writer was handed back
 pub record IsWritten (k : KeeperState) (saved : Result (Unit {0}) SaveFault) (shelved : List ShelfCall) : Type 0 where
   pub before : Output
   pub after : Output
@@ -43,7 +43,7 @@ pub record IsWritten (k : KeeperState) (saved : Result (Unit {0}) SaveFault) (sh
   pub nothing_written : saved ≡ Err why.TooManyCells → Keeps before.written after.written
   pub failed : saved ≡ Err why.WriteFailed → HasRisen before.failures after.failures
 
--- the save, as far as memory goes: none is wanted; or its writer can't be opened, which is told; or it is written
+-- the save, as far as memory lasts: none is wanted; or its writer can't be opened, which is reported; or it is written
 abbrev pub EndsSave : Bool → KeeperState → List ShelfCall → Type 0
 EndsSave whole k shelved =
     ((whole ≡ true) × (shelved ≡ unwanted ∷ []))

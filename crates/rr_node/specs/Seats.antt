@@ -8,8 +8,8 @@ use Rattle.rr_node.specs.Fetches.{ReaderAndGate, IsServed}
 use Rattle.rr_host.specs.Streams.{Stream}
 use Rattle.rr_host.specs.Visits.{Call, Differs, Gave, Failed, Over, TookBack}
 
--- what the visits are told of a connection before it is handed back: that the peer has another schema, where this ended
--- a session
+-- what the visits are told of a connection before it is handed back: that the peer has another schema, if this ended a
+-- session
 abbrev pub reported_of_schema : Result (Unit {0}) NodeFault → List Call
 reported_of_schema (Ok x) = []
 reported_of_schema (Err (Session SchemaDiffers)) = Differs ∷ []
@@ -44,11 +44,11 @@ HasVisited (Ok true) calls old new = IsVisit calls old new
 HasVisited (Ok false) calls old new = (calls ≡ Over ∷ []) × (new ≡ old)
 HasVisited (Err fault) calls old new = (fault ≡ Memory) × IsStreamServed (Err Memory) calls old new
 
--- as many visits as a seat serves: 0 means without end, which is as many as 64 bits count
+-- how many visits a seat serves: 0 means without end, which is as many as 64 bits can count
 abbrev pub visits_of : ℕ → ℕ
 visits_of visits = if visits == 0 then 2 ^ 64 - 1 else visits
 
--- A seat served visits: as many as it may, or those that came before none would, or those before memory ran out
+-- A seat served visits: as many as it may, or those before no more would come, or those before memory ran out
 abbrev pub HasServedSeat : ℕ → Result (Unit {0}) NodeFault → List Call → ReaderAndGate → ReaderAndGate → Type 0
 HasServedSeat most (Ok x) calls old new =
     AreVisits most calls old new

@@ -1,4 +1,4 @@
--- The calls of a shelf, each told with what it gave and was handed back.
+-- The calls of a shelf, each with what it gave and was handed.
 use Rattle.std.specs.Prelude.{ℕ, Bool, Option}
 use Rattle.rr_host.specs.Streams.{Output}
 use Rattle.rr_node.specs.declared.fault.NodeFault.{NodeFault}

@@ -10,7 +10,7 @@ counted a b = min (a + b) (2 ^ 64 - 1)
 abbrev pub no_tally : Tally
 no_tally = record { connections = 0; points = 0; samples = 0; refused = 0 }
 
--- one connection more, with its report
+-- one more connection, with its report
 abbrev pub tally_more : Tally → Report → Tally
 tally_more t report = record {
   connections = counted t.connections 1;

@@ -33,9 +33,9 @@ pub record Desk : Type 0 where
 abbrev pub Desks : Type 0
 Desks = FinMap nat_cmp Desk
 
--- a desk of a new replica is opened; its keeper puts a sample, joins a cell of what another desk's operations made, up
--- to one of them, or publishes; it closes the desk, and one is opened of its replica; a desk is opened of a replica
--- that is loaded of what another's operations made
+-- a desk is opened with a new replica; its keeper puts a sample, joins a cell of what another desk's operations made,
+-- up to one of them, or publishes; it closes the desk, and one is opened with its replica; a desk is opened with a
+-- replica that is loaded from what another's operations made
 pub data Call : Type 0 where
   opens : (origin : ℕ) (b : Book) → Call
   puts : (origin : ℕ) (key : List ℕ) (time value : ℤ) → Call
@@ -52,7 +52,7 @@ desk_of h b = record { opening = joins_of h.cells; keeper = keeper_at_opening h 
 abbrev pub unwritten : Layout → ℕ → Cells → ReplicaState
 unwritten s origin m = record { schema = s; origin = origin; next = 1; cells = m }
 
--- a desk whose keeper is then another
+-- a desk with another keeper in place of its own
 abbrev pub kept_by : Desk → KeeperState → Desk
 kept_by d k = record { opening = d.opening; keeper = k }
 
@@ -102,11 +102,11 @@ MayCallAll s ds (c ∷ cs) = MayCall s ds c × MayCallAll s (called s ds c) cs
 abbrev pub puts_of : ℕ → PointView → ℤ → List (List ℕ × ℤ) → List Call
 puts_of origin p time fields = map (λ field. puts origin (key_text p field.0) time field.1) fields
 
--- and to take a page is a join for each cell
+-- and taking a page is a join for each cell
 abbrev pub joins_of_page : ℕ → ℕ → List Op → List Cell → List Call
 joins_of_page origin there list cells = map (λ c. joins origin there list c) cells
 
--- the calls may be made, one after the other, and leave the keeper of this desk so
+-- the calls may be made, one after the other, and leave this desk with this keeper
 pub record Leave (s : Layout) (ds : Desks) (origin : ℕ) (d : Desk) (calls : List Call) (k : KeeperState) : Type 0 where
   pub may : MayCallAll s ds calls
   pub keeper : fold (called s) ds calls ≡ insert ds origin (kept_by d k)
@@ -148,8 +148,8 @@ AreDeedsOf s before [] done = done ≡ []
 AreDeedsOf s before (c ∷ cs) done = (first : List Deed) × (rest : List Deed) × IsDeedOf s before c first
     × AreDeedsOf s (before ++ first) cs rest × (done ≡ first ++ rest)
 
--- each reader of each desk answers by exactly the marks that had reached its node when it had the operations that the
--- reader has seen
+-- each reader of each desk answers from exactly the marks that had reached its node when the node had the operations
+-- that the reader has seen
 pub record AnswersBy (s : Layout) (calls : List Call) (deeds : List Deed) : Type 0 where
   pub deeds_are : AreDeedsOf s [] calls deeds
   pub answers : (origin : ℕ) (d : Desk) (r : ReaderState) (later : List Op) (q : Request)
@@ -157,7 +157,7 @@ pub record AnswersBy (s : Layout) (calls : List Call) (deeds : List Deed) : Type
       → r.list ++ later ≡ d.keeper.published ++ d.keeper.pending
       → Answers s deeds (record { origin = origin; ago = length later }) q (cells_text r.schema (cells_seen r) q)
 
--- so it is whatever calls are made at however many desks
+-- so it is, whatever calls are made at any number of desks
 abbrev pub CallsAnswerFromSamples : Type 0
 CallsAnswerFromSamples = (s : Layout) (calls : List Call) → IsLayout s → MayCallAll s empty calls
     → (deeds : List Deed) × AnswersBy s calls deeds

@@ -9,7 +9,7 @@ use Rattle.rr_nodes.specs.Nodes.{Deed, opened, wrote, took, held_at, after_all}
 use Rattle.rr_nodes.specs.Models.{cell_model}
 use Rattle.rr_nodes.specs.Sessions.{now_at}
 
--- an archive of three rows, each of a minute
+-- an archive of three rows, each of one minute
 abbrev pub minutes : Layout
 minutes = record { step = 60; archives = record { steps = 1; rows = 3; num = 0; den = 1 } ∷ [] }
 
@@ -20,12 +20,12 @@ load = codes "load"
 abbrev pub reads : ℕ → ℕ → ℤ → Deed
 reads origin minute value = wrote origin load (pos (minute * 60_000_000_000)) value
 
--- a node takes the cell of a minute that the first node has
+-- a node takes the first node's cell of a minute
 abbrev pub takes_first : ℕ → ℕ → Deed
 takes_first origin minute = took origin (now_at 1) (record { key = load; archive = 0; slot = pos minute; origin = 1 })
 
--- the first node writes in two minutes, the second in the latter. A page of the first node's two cells comes to the
--- third node twice. It comes to the second node cut after its first cell. A page of the second node comes to nobody
+-- the first node writes in two minutes, the second in the later one. A page of the first node's two cells reaches the
+-- third node twice. It reaches the second node cut after its first cell. A page of the second node reaches nobody
 abbrev pub deeds_of_three : List Deed
 deeds_of_three =
     opened 1 ∷ opened 2 ∷ opened 3 ∷ reads 1 0 (pos 10) ∷ reads 1 1 (pos 20) ∷ reads 2 1 (pos 7)
@@ -43,7 +43,7 @@ answer_at origin = option_map (λ m. cells_text minutes m both_minutes)
 abbrev pub two_lines : List ℕ → List ℕ → Option (List ℕ)
 two_lines one two = Some (one ++ line_feed ∷ two ++ line_feed ∷ [])
 
--- each answers by what reached it
+-- each answers from what reached it
 pub record ThreeAnswer : Type 0 where
   pub first : answer_at 1 ≡ two_lines (codes "load,0,10") (codes "load,60,20")
   pub second : answer_at 2 ≡ two_lines (codes "load,0,10") (codes "load,60,7")

@@ -1,4 +1,4 @@
--- Followers: who reads the journal of a peer part by part, and joins what comes, holds all that the peer held.
+-- Followers: a node that reads the journal of a peer part by part, and joins what comes, holds all that the peer held.
 use Rattle.std.specs.Prelude.{◌≡◌, ◌⊎◌, ◌+◌, ◌-◌, ◌^◌, ◌<◌, ◌≤◌, ℕ, List, [], ◌∷◌, ◌++◌, drop, take, None, Ok, All, Contains}
 use Rattle.std.specs.FinMap.{empty}
 use Rattle.rr_schema.specs.Schema.{Layout, IsLayout}
@@ -17,7 +17,7 @@ use Rattle.rr_replication.specs.Reading.{after_part, peer_state}
 use Rattle.rr_batch.specs.Peers.{joined_to}
 use Rattle.rr_nodes.specs.Replays.{HaveAll}
 
--- who follows a journal: its keeper, how far the journal is read, and the cells of it that aren't joined yet
+-- a follower of a journal: its keeper, how far the journal is read, and the cells of it that aren't joined yet
 pub record Follower : Type 0 where
   pub keeper : KeeperState
   pub place : Cursor
@@ -25,7 +25,7 @@ pub record Follower : Type 0 where
 
 -- ---- a step
 
--- of a text that begins at an offset a part from the follower's place on was read, as the clauses of `Following::take`
+-- a part of a text that begins at an offset was read from the follower's place on, as the clauses of `Following::take`
 -- say: its cells are of the schema, and wait behind the others
 pub record HasReadOn (s : Layout) (begin : ℕ) (text : List ℕ) (f g : Follower) : Type 0 where
   pub len : ℕ
@@ -34,21 +34,21 @@ pub record HasReadOn (s : Layout) (begin : ℕ) (text : List ℕ) (f g : Followe
   pub of_schema : All (λ c. IsCellOf s (owned_cell c)) f.waiting → All (λ c. IsCellOf s (owned_cell c)) g.waiting
   pub keeper : g.keeper ≡ f.keeper
 
--- the first of the cells that wait were joined, as `join_cells` does
+-- the first of the waiting cells were joined, as `join_cells` does
 pub record HasJoinedFirst (f g : Follower) : Type 0 where
   pub count : ℕ
   pub joined : g.keeper ≡ joined_to f.keeper (take count f.waiting)
   pub waiting : g.waiting ≡ drop count f.waiting
   pub place : g.place ≡ f.place
 
--- the keeper did anything else, and holds all that it held
+-- the keeper did something else, and still holds all that it held
 pub record HasGoneOn (s : Layout) (f g : Follower) : Type 0 where
   pub schema : g.keeper.schema ≡ f.keeper.schema
   pub held : Holds s (cells_of g.keeper) (cells_of f.keeper)
   pub waiting : g.waiting ≡ f.waiting
   pub place : g.place ≡ f.place
 
--- so it is where it took operations, its own samples and cells of others, and published them or not
+-- so it is if it took operations, its own samples and cells of others, whether or not it published them
 abbrev pub KeepersGoOn : Type 0
 KeepersGoOn =
     (f g : Follower) (ops : List Op) → GoesOn (own_replica f.keeper) → AllAccepted (own_replica f.keeper) ops
@@ -62,8 +62,8 @@ Follows s begin text f g = HasReadOn s begin text f g ⊎ (HasJoinedFirst f g �
 
 -- ---- all steps
 
--- each of these, the newest first, comes by a step from one before it: from the last one, or, where the node was started
--- again, from the one whose place was recorded
+-- each of these, the newest first, comes by a step from one before it: from the last one, or, if the node was
+-- restarted, from the one whose place was recorded
 abbrev pub AreFollowers : Layout → ℕ → List ℕ → Follower → List Follower → Type 0
 AreFollowers s begin text start [] = Unit {0}
 AreFollowers s begin text start (g ∷ before) =
@@ -88,14 +88,14 @@ pub record CanStand (begin : Cursor) (rs : List Raw) : Type 0 where
   pub fit : AllFit rs
   pub short : begin.offset + records_len rs < 2 ^ 64
 
--- it is behind these records, or further, and no cell waits
+-- it is past these records, or further on, and no cell waits
 pub record IsBehind (begin : Cursor) (rs : List Raw) (f : Follower) : Type 0 where
   pub offset : begin.offset + records_len rs ≤ f.place.offset
   pub waiting : f.waiting ≡ []
 
 -- ---- what it holds
 
--- a follower from the beginning of a journal on, once it is behind what was written there, holds all that the peer held
+-- a follower from the beginning of a journal on, once it is past what was written there, holds all that the peer held
 -- at the last of these writes
 abbrev pub FollowersHoldAll : Type 0
 FollowersHoldAll =
@@ -104,12 +104,12 @@ FollowersHoldAll =
     → IsStart s begin start → HasFollowed s begin (rs ++ later) start f → IsBehind begin rs f
     → Holds s (cells_of f.keeper) (last_cells empty writes)
 
--- in the journal, at where the checkpoint begins that it has read
+-- in the journal, where the checkpoint that it has read begins
 abbrev pub from_checkpoint : Cursor → Follower → Follower
 from_checkpoint begins f = record { keeper = f.keeper; place = begins; waiting = [] }
 
--- so does one that has first read all records of a checkpoint, whose cells were listed so many at a time while the peer
--- went on, and then the journal from the place on at which the checkpoint begins
+-- so does one that has first read all records of a checkpoint, whose cells were listed a number at a time while the
+-- peer went on, and then the journal from where the checkpoint begins
 abbrev pub CheckpointedHoldAll : Type 0
 CheckpointedHoldAll =
     (s : Layout) (begins : Cursor) (m : Cells) (batches : List Batch) (last : Cells) (writes : List Write)

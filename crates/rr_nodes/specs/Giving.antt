@@ -1,4 +1,4 @@
--- What a node gives is there: the cells of a difference, and of a snapshot that is loaded elsewhere.
+-- What a node gives, it holds: the cells of a difference, and of a snapshot that is loaded elsewhere.
 use Rattle.std.specs.Prelude.{◌≡◌, ◌≢◌, ℕ, ◌≤◌, false, List, All, Some, Ok}
 use Rattle.std.specs.FinMap.{get, len, entries, contains_key}
 use Rattle.rr_schema.specs.Schema.{Layout, IsLayout}
@@ -18,7 +18,7 @@ use Rattle.rr_nodes.specs.Nodes.{Node, Moment, Deed, held_at, after_all}
 use Rattle.rr_nodes.specs.Models.{cell_model}
 use Rattle.rr_nodes.specs.Keepers.{IsNode}
 
--- each cell of a difference is there, whatever names it is against
+-- each cell of a difference is held, whatever summary it is against
 abbrev pub GivenAreThere : Type 0
 GivenAreThere = (m : Cells) (summary : List NamedVersion)
     → All (λ e. get m e.0 ≡ Some e.1) (newer_cells summary (entries m))

@@ -1,4 +1,5 @@
--- Journals: what a node writes there are cells that it held at moments, so to read them is to take cells, as from a page.
+-- Journals: what a node writes there are cells that it held at moments, so reading them is taking cells, as from a
+-- page.
 use Rattle.std.specs.Prelude.{◌≡◌, ◌≢◌, ℕ, List, [], ◌∷◌, ◌++◌, map, fold, None, Some, All}
 use Rattle.std.specs.FinMap.{empty, get}
 use Rattle.rr_schema.specs.Schema.{Layout, IsLayout}
@@ -37,14 +38,14 @@ pub record WasElsewhere (ns : Nodes Cells) (origin : ℕ) (e : NamedCell) : Type
   pub was : held_at ns there ≡ Some held
   pub cell : get held e.0 ≡ Some e.1
 
--- so is each cell that was written, where the cells of each write are what was held elsewhere
+-- so is each cell that was written, if the cells of each write are what was held elsewhere
 abbrev pub WrittenWereHeld : Type 0
 WrittenWereHeld =
     (s : Layout) (ns : Nodes Cells) (origin : ℕ) (m : Cells) (writes : List Write) → AreWrites s m writes
     → AreMomentsElsewhere ns origin (map (λ w. w.cells) writes)
     → All (WasElsewhere ns origin) (written_cells writes)
 
--- and each of a checkpoint, read key by key or so many cells at a time
+-- and each of a checkpoint, read key by key or a number of cells at a time
 abbrev pub CheckpointsWereHeld : Type 0
 CheckpointsWereHeld =
     (ns : Nodes Cells) (origin : ℕ) (moments : List Cells) (cells : List NamedCell) → IsCheckpoint moments cells
@@ -70,7 +71,7 @@ pub record AreTaken (s : Layout) (deeds : List Deed) (origin : ℕ) (had : Cells
   pub then : held_at (after_all cell_model s (deeds ++ takes_of origin cells)) (now_at origin)
       ≡ Some (join_cells s had es)
 
--- whatever a node reads of the journals of others, cut anywhere, read twice and in any order, are deeds
+-- whatever cells a node reads from the journals of others, cut anywhere, read twice or in any order, are taken by deeds
 abbrev pub ReadCellsAreDeeds : Type 0
 ReadCellsAreDeeds =
     (s : Layout) (deeds : List Deed) (origin : ℕ) (had : Cells) (es : List NamedCell)
@@ -78,7 +79,7 @@ ReadCellsAreDeeds =
     → All (WasElsewhere (after_all cell_model s deeds) origin) es
     → AreTaken s deeds origin had es
 
--- and these deeds are what a keeper does that joins the cells, each one of some map
+-- and these deeds are what a keeper that joins the cells does, each from some map
 abbrev pub ReadCellsAreAKeepers : Type 0
 ReadCellsAreAKeepers =
     (opening : List Op) (k : KeeperState) (n : Node Cells) (cells : List (Cell × Cells))
@@ -86,7 +87,7 @@ ReadCellsAreAKeepers =
     → IsNode opening (with_joined k (map (λ c. c.0) cells))
     (fold (λ o c. taken cell_model k.schema k.origin o c.1 (owned_cell c.0).0) n cells)
 
--- a cell as another desk than that of an origin had it when it had done some of its operations
+-- a cell as a desk other than that of an origin had it after some of its operations
 pub record WasAtADesk (s : Layout) (ds : Desks) (origin : ℕ) (c : Cell) : Type 0 where
   pub there : ℕ
   pub other : there ≢ origin
@@ -103,7 +104,7 @@ ReadCellsAreJoins =
 
 -- ---- who has read a journal up to a place
 
--- what a node holds has all that it held at any moment
+-- a node holds all that it held at any moment
 abbrev pub NodesOnlyAdd : Type 0
 NodesOnlyAdd =
     (s : Layout) (deeds : List Deed) (origin ago : ℕ) (m x : Cells) → IsLayout s
@@ -119,7 +120,7 @@ pub record KnowsAll (s : Layout) (deeds : List Deed) (origin : ℕ) (there : Mom
   pub is_given : held_at (after_all sample_model s deeds) there ≡ Some given
   pub marks : live s known ≡ live s (union known given)
 
--- so it is where the node holds all that was held then, and it answers by these samples too
+-- so it is if the node holds all that was held then, and it answers from these samples too
 abbrev pub HoldersKnowAll : Type 0
 HoldersKnowAll =
     (s : Layout) (deeds : List Deed) (origin : ℕ) (there : Moment) (m x : Cells) → IsLayout s
@@ -139,14 +140,15 @@ pub record HasTaken (s : Layout) (deeds : List Deed) (origin : ℕ) (e : NamedCe
   pub was : held_at (after_all cell_model s before) there ≡ Some held
   pub cell : get held e.0 ≡ Some e.1
 
--- whatever else was done at it, in whatever order, it holds the join of all cells that it took
+-- whatever else was done at a node, in whatever order, it holds the join of all cells that it took
 abbrev pub TakenAreHeld : Type 0
 TakenAreHeld =
     (s : Layout) (deeds : List Deed) (origin : ℕ) (x : Cells) (es : List NamedCell) → IsLayout s
     → held_at (after_all cell_model s deeds) (now_at origin) ≡ Some x → All (HasTaken s deeds origin) es
     → Holds s x (join_cells s empty es)
 
--- so who has taken each cell of a journal from its beginning up to a write holds all that its node held then
+-- so a node that has taken each cell of a journal from its beginning up to a write holds all that was held at that
+-- write
 abbrev pub JournalsBringAll : Type 0
 JournalsBringAll =
     (s : Layout) (deeds : List Deed) (origin : ℕ) (x : Cells) (writes : List Write) → IsLayout s
@@ -154,7 +156,7 @@ JournalsBringAll =
     → All (HasTaken s deeds origin) (written_cells writes)
     → Holds s x (last_cells empty writes)
 
--- and who has taken each of a checkpoint, and of the journal from the checkpoint's first moment on
+-- and so does one that has taken each of a checkpoint, and of the journal from the checkpoint's first moment on
 abbrev pub CheckpointedBringAll : Type 0
 CheckpointedBringAll =
     (s : Layout) (deeds : List Deed) (origin : ℕ) (m x : Cells) (moments : List Cells) (cells : List NamedCell)

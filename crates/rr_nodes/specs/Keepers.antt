@@ -23,9 +23,9 @@ use Rattle.rr_desk.specs.ReaderState.{ReaderState, cells_seen, with_joined}
 use Rattle.rr_nodes.specs.Nodes.{Node, Moment, Deed, all_held, held_at, written, taken, after_all}
 use Rattle.rr_nodes.specs.Models.{cell_model, sample_model}
 
--- a keeper whose desk was opened with these operations is this node: it has its next number and its cells, and what a
--- beginning of its operations makes, from the opening on, is what the node held as many changes ago as operations came
--- after it
+-- a keeper whose desk was opened with these operations is this node: it has the node's next number and cells, and what
+-- a beginning of its operations makes, from the opening on, is what the node held as many changes ago as operations
+-- came after it
 pub record IsNode (opening : List Op) (k : KeeperState) (n : Node Cells) : Type 0 where
   pub next : k.next ≡ n.next
   pub now : cells_of k ≡ n.now
@@ -43,14 +43,14 @@ OpeningIsANode =
     → h.cells ≡ n.now
     → IsNode (joins_of h.cells) (keeper_at_opening h b) n
 
--- `put`, where a number is left, is a sample that the node writes
+-- `put`, if a number is left, is a sample that the node writes
 abbrev pub PutIsADeed : Type 0
 PutIsADeed =
     (opening : List Op) (k : KeeperState) (n : Node Cells) (key : List ℕ) (time value : ℤ) → k.next ≤ MAX_NUMBER
     → IsNode opening k n
     → IsNode opening (with_put k key time value) (written cell_model k.schema k.origin n key time value)
 
--- `write`, where as many numbers are left as a point has fields, is a sample for each field, in order; where memory ran
+-- `write`, if as many numbers are left as a point has fields, is a sample for each field, in order; or, if memory ran
 -- out, for the first fields
 abbrev pub WriteIsDeeds : Type 0
 WriteIsDeeds =
@@ -59,14 +59,14 @@ WriteIsDeeds =
     → IsNode opening (with_puts k p time fields) (fold
     (λ o field. written cell_model k.schema k.origin o (key_text p field.0) time field.1) n fields)
 
--- `join_cell`, of a cell among others, is that cell of theirs taken
+-- `join_cell`, of a cell among others, takes that cell from them
 abbrev pub JoinIsADeed : Type 0
 JoinIsADeed =
     (opening : List Op) (k : KeeperState) (n : Node Cells) (there : Cells) (c : Cell)
     → get there (owned_cell c).0 ≡ Some c.contribution → IsNode opening k n
     → IsNode opening (with_pending k (Join c)) (taken cell_model k.schema k.origin n there (owned_cell c).0)
 
--- and so the cells of a page, in order
+-- and so it is with the cells of a page, in order
 abbrev pub PageIsDeeds : Type 0
 PageIsDeeds =
     (opening : List Op) (k : KeeperState) (n : Node Cells) (there : Cells) (cells : List Cell)
@@ -74,12 +74,12 @@ PageIsDeeds =
     → IsNode opening (with_joined k cells) (fold (λ o c. taken cell_model k.schema k.origin o there (owned_cell c).0) n
     cells)
 
--- `publish` leaves the node
+-- `publish` leaves the node as it is
 abbrev pub PublishIsNone : Type 0
 PublishIsNone = (opening : List Op) (k : KeeperState) (n : Node Cells) → IsNode opening k n
     → IsNode opening (with_all_published k) n
 
--- `close` gives a replica of which the desk that is opened next is the same node
+-- `close` gives a replica, and the desk that is opened next with it is the same node
 abbrev pub ReopeningIsNone : Type 0
 ReopeningIsNone =
     (opening : List Op) (k : KeeperState) (n : Node Cells) (b : Book) → IsReplicaState (own_replica k)
@@ -101,14 +101,14 @@ ReadersSeeMoments =
     → IsReaderOf opening k r → r.list ++ later ≡ k.published ++ k.pending
     → slice_get (all_held n) (length later) ≡ Some (cells_seen r)
 
--- the text answers by the marks that had reached a node at this moment
+-- the text answers from the marks that had reached a node at this moment
 pub record Answers (s : Layout) (deeds : List Deed) (at : Moment) (q : Request) (text : List ℕ) : Type 0 where
   pub known : Knowledge
   pub then : held_at (after_all sample_model s deeds) at ≡ Some known
   pub text_is : text ≡ fetch_text s known q
 
--- so whatever was done, a reader at any of the nodes answers by exactly the marks that had reached its node when it had
--- the operations that the reader has seen
+-- so whatever was done, a reader at any of the nodes answers from exactly the marks that had reached its node when the
+-- node had the operations that the reader has seen
 abbrev pub ReadersAnswerFromSamples : Type 0
 ReadersAnswerFromSamples =
     (s : Layout) (deeds : List Deed) (origin : ℕ) (opening : List Op) (k : KeeperState) (n : Node Cells)
@@ -117,7 +117,7 @@ ReadersAnswerFromSamples =
     → r.list ++ later ≡ k.published ++ k.pending
     → Answers s deeds (record { origin = origin; ago = length later }) q (cells_text r.schema (cells_seen r) q)
 
--- and two answers by the same live marks, at any nodes and moments, are one
+-- and two answers from the same live marks, at any nodes and moments, are the same
 abbrev pub ReadersAnswerAlike : Type 0
 ReadersAnswerAlike =
     (s : Layout) (deeds : List Deed) (a b : Moment) (q : Request) (text other : List ℕ) (x : Answers s deeds a q text)

@@ -37,14 +37,14 @@ abbrev pub NodesAreOfSamples : Type 0
 NodesAreOfSamples = (s : Layout) (deeds : List Deed) → IsLayout s
     → after_all cell_model s deeds ≡ in_cells s (after_all sample_model s deeds)
 
--- so a fetch, of what a node held at any moment, is answered by exactly these marks
+-- so a fetch from what a node held at any moment is answered from exactly these marks
 abbrev pub FetchesAreOfSamples : Type 0
 FetchesAreOfSamples =
     (s : Layout) (deeds : List Deed) (at : Moment) (q : Request) → IsLayout s
     → option_map (λ m. cells_text s m q) (held_at (after_all cell_model s deeds) at)
     ≡ option_map (λ k. fetch_text s k q) (held_at (after_all sample_model s deeds) at)
 
--- and at two moments of any nodes at which the same live marks are known the cells are the same
+-- and at two moments of any nodes, if the same live marks are known, the cells are the same
 abbrev pub MomentsAnswerAlike : Type 0
 MomentsAnswerAlike =
     (s : Layout) (deeds : List Deed) (a b : Moment) → IsLayout s
@@ -54,8 +54,8 @@ MomentsAnswerAlike =
 
 -- ---- what keeps it so
 
--- of what was written nothing that a node ever held lacks what is before it, each node holds all that its origin wrote,
--- and its next number, from 1, is past that; only a node wrote
+-- whatever a node ever held of what was written lacks nothing before it; each node holds all that its origin wrote, and
+-- its next number, from 1, is past that; only nodes wrote
 pub record IsSound (s : Layout) (w : World) (ns : Nodes Knowledge) : Type 0 where
   pub closed : (origin : ℕ) (n : Node Knowledge) → get ns origin ≡ Some n → AllByRecursion (IsClosed s w) (all_held n)
   pub own : (origin : ℕ) (n : Node Knowledge) → get ns origin ≡ Some n → HoldsAllOf s w n.now origin
@@ -69,12 +69,12 @@ abbrev pub IsByDeeds : List Deed → World → Type 0
 IsByDeeds deeds w = (x : Sample) → IsWritten w x
     → Contains deeds (wrote x.origin x.key x.time x.value) × (1 ≤ x.number) × (x.number ≤ MAX_NUMBER)
 
--- whatever is done
+-- so it is, whatever is done
 abbrev pub PremisesAreKept : Type 0
 PremisesAreKept = (s : Layout) (deeds : List Deed) → IsLayout s
     → (w : World) × IsSound s w (after_all sample_model s deeds) × IsByDeeds deeds w
 
--- a sample that is written is of an origin and a key text, with a time and a value of 64 bits
+-- a written sample has an origin and a key text, and a time and a value of 64 bits
 abbrev pub IsWithinLimits : Deed → Type 0
 IsWithinLimits (opened origin) = Unit {0}
 IsWithinLimits (wrote origin key time value) = IsOrigin origin × IsKeyText key × IsTrue (fits_i64 time)

@@ -10,7 +10,7 @@ use Rattle.rr_cells.specs.Joins.{join_cell}
 use Rattle.rr_cells.specs.Puts.{put_sample}
 use Rattle.rr_nodes.specs.Nodes.{Model, where_some}
 
--- a node holds cells: to take one is to join it, if it is there, and the next number is moved past it
+-- a node holds cells: taking one is joining it, if it is there, and moves the next number past it
 abbrev pub cell_model : Model Cells
 cell_model = record {
   nothing = empty;
@@ -20,7 +20,7 @@ cell_model = record {
   kept = λ s m. m;
 }
 
--- a node holds marks: to take a cell is to know the live marks of its name too
+-- a node holds marks: taking a cell is knowing the live marks of its name too
 abbrev pub sample_model : Model Knowledge
 sample_model = record {
   nothing = empty;

@@ -8,8 +8,8 @@ use Rattle.rr_schema.specs.Schema.{Layout}
 use Rattle.rr_cells.specs.CellNames.{CellName}
 use Rattle.rr_cells.specs.Samples.{Sample}
 
--- a node, which is a replica from when it is made or loaded on: the number of its next sample, what it holds, and all
--- that it held before, the newest first
+-- a node, which is a replica from when it is made or loaded: the number of its next sample, what it holds, and all that
+-- it held before, the newest first
 pub record Node (K : Type 0) : Type 0 where
   pub next : ℕ
   pub now : K
@@ -19,20 +19,20 @@ pub record Node (K : Type 0) : Type 0 where
 abbrev pub Nodes : Type 0 → Type 0
 Nodes K = FinMap nat_cmp (Node K)
 
--- the moment so many changes ago at the node of an origin
+-- the moment this many changes ago at the node of an origin
 pub record Moment : Type 0 where
   pub origin : ℕ
   pub ago : ℕ
 
 -- what is done: a node is opened that holds nothing; a node writes a sample; it takes one cell of what some node held
--- at some moment, be it of a page or of a journal; a node is loaded with all that some node held at some moment
+-- at some moment, whether from a page or from a journal; a node is loaded with all that some node held at some moment
 pub data Deed : Type 0 where
   opened : (origin : ℕ) → Deed
   wrote : (origin : ℕ) (key : List ℕ) (time value : ℤ) → Deed
   took : (origin : ℕ) (there : Moment) (name : CellName) → Deed
   loaded : (origin : ℕ) (there : Moment) → Deed
 
--- what deeds do with what a node holds: it starts with nothing, takes in a sample, or takes in one cell of what another
+-- what deeds do with what a node holds: it starts with nothing, takes a sample, or takes one cell of what another
 -- holds, after which its next number may be another; and a snapshot keeps what counts
 pub record Model (K : Type 0) : Type 0 where
   pub nothing : K
@@ -41,7 +41,7 @@ pub record Model (K : Type 0) : Type 0 where
   pub next_past : ℕ → ℕ → K → CellName → ℕ
   pub kept : Layout → K → K
 
--- f of what is there, else as it was
+-- f of what is there, or else as it was
 abbrev pub where_some : {X Y : Type 0} → Option X → Y → (X → Y) → Y
 where_some None was f = was
 where_some (Some x) was f = f x
@@ -59,7 +59,7 @@ module _ {K : Type 0} where
   abbrev pub holding : Node K → ℕ → K → Node K
   holding n next k = record { next = next; now = k; before = n.now ∷ n.before }
 
-  -- a node more, unless its origin was used
+  -- one more node, unless its origin was used
   abbrev pub with_new : Nodes K → ℕ → K → Nodes K
   with_new ns origin k = if contains_key ns origin then ns else insert ns origin
       (record { next = 1; now = k; before = [] })
@@ -85,6 +85,6 @@ module _ {K : Type 0} (model : Model K) (s : Layout) where
       (λ n. where_some (held_at ns there) ns (λ k. insert ns origin (taken origin n k name)))
   after ns (loaded origin there) = where_some (held_at ns there) ns (λ k. with_new ns origin (model.kept s k))
 
-  -- the nodes after these deeds, where there was none
+  -- the nodes after these deeds, starting from none
   abbrev pub after_all : List Deed → Nodes K
   after_all deeds = fold after empty deeds

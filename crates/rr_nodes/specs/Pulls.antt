@@ -12,7 +12,7 @@ use Rattle.rr_nodes.specs.Models.{sample_model}
 abbrev pub takes : ℕ → Moment → List CellName → List Deed
 takes origin there names = map (λ name. took origin there name) names
 
--- cells that a node takes of what another held at one moment leave that other as it was
+-- taking cells of what another node held at one moment, one by one, changes the taking node alone, which takes each
 abbrev pub TakesAreInOrder : {K : Type 0} → Model K → Type 0
 TakesAreInOrder {K} model =
     (s : Layout) (ns : Nodes K) (origin : ℕ) (there : Moment) (names : List CellName) (n : Node K) (k : K)
@@ -21,8 +21,8 @@ TakesAreInOrder {K} model =
     → fold (after model s) ns (takes origin there names)
     ≡ insert ns origin (fold (λ o name. taken model s origin o k name) n names)
 
--- whatever was done, once a node has taken all cells that another held at one moment and it lacked, it has the live
--- marks of what either knew
+-- whatever was done, once a node has taken all cells that another held at one moment and that it lacked, it has the
+-- live marks of what either knew
 abbrev pub PullsBringAll : Type 0
 PullsBringAll =
     (s : Layout) (deeds : List Deed) (origin : ℕ) (there : Moment) (n : Node Knowledge) (k : Knowledge) → IsLayout s

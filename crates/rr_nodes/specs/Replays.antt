@@ -1,4 +1,4 @@
--- Journals by their bytes: what is read of one, wherever it is cut, are deeds, and what was synced brings all.
+-- Journals by their bytes: what is read of one, wherever it is cut, is deeds, and what was synced brings all.
 use Rattle.std.specs.Prelude.{◌≡◌, ◌≤◌, ℕ, List, ◌++◌, length, map, take, Some, Ok, All, Contains}
 use Rattle.rr_schema.specs.Schema.{Layout, IsLayout}
 use Rattle.rr_cells.specs.CellNames.{CellName}
@@ -32,8 +32,8 @@ pub record HaveAll (s : Layout) (cells : List NamedCell) (rs : List Raw) : Type 
 abbrev pub cells_in : Recovery → Cells
 cells_in x = x.replica.cells
 
--- where the records of a journal have what its node wrote, whatever is read of its bytes, wherever they are cut, are
--- deeds: of a node that held the same they make what the replay makes of a replica
+-- if the records of a journal have only what its node wrote, whatever is read of its bytes, wherever they are cut, is
+-- deeds: they make of a node that held the same what the replay makes of a replica
 abbrev pub PrefixesAreDeeds : Type 0
 PrefixesAreDeeds =
     (s : Layout) (deeds : List Deed) (origin : ℕ) (m : Cells) (writes : List Write) (before : List ℕ)
@@ -45,8 +45,8 @@ PrefixesAreDeeds =
     → (cells : List (Moment × CellName))
     × (held_at (after_all cell_model s (deeds ++ takes_of origin cells)) (now_at origin) ≡ Some (cells_in y))
 
--- whoever holds what was there before these writes, and reads their records, holds all that was there at the last one,
--- whatever a crash left behind what was synced
+-- a replica that holds what was there before these writes, and reads their records, holds all that was there at the
+-- last one, whatever a crash left after what was synced
 abbrev pub SyncedBringAll : Type 0
 SyncedBringAll =
     (s : Layout) (m : Cells) (writes : List Write) (before : List ℕ) (rs : List Raw) (tail : List ℕ) (x y : Recovery)
@@ -55,7 +55,7 @@ SyncedBringAll =
     → taken_records x (records_of before (records_text before rs ++ tail)).0 ≡ Ok y
     → Holds s (cells_in y) (last_cells m writes)
 
--- and whoever has exactly that, and reads exactly these records, has exactly what was there at the last one
+-- and one that has exactly that, and reads exactly these records, has exactly what was there at the last one
 abbrev pub ReplaysMakeTheLast : Type 0
 ReplaysMakeTheLast =
     (s : Layout) (writes : List Write) (rs : List Raw) (x y : Recovery) → IsLayout s → IsTrimmed s (cells_in x)

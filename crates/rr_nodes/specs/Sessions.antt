@@ -36,9 +36,8 @@ lacking given had = newer_cells (versions_of had) (entries given)
 abbrev pub names_lacking : Cells → Cells → List CellName
 names_lacking given had = map (λ e. e.0) (lacking given had)
 
--- a whole session of two sides: the one that gives heard what the other sends, of which it may have read the first
--- bytes before, and the one that pulls read what that wrote, of which these are the cells; more may come behind in
--- either direction
+-- a whole session of two sides: the one that gives heard what the other sends, whose first bytes it may have read
+-- before, and the one that pulls read what that one wrote, whose cells are these; more may follow in either direction
 pub record IsSession (s : Layout) (had given : Cells) (cells : List NamedCell) : Type 0 where
   pub before : List ℕ
   pub heard : List ℕ
@@ -66,8 +65,8 @@ SidesHaveASession =
     (s : Layout) (had given : Cells) → IsLayout s → All (IsCellOf s) (entries had) → All (IsCellOf s) (entries given)
     → IsSession s had given (lacking given had)
 
--- a session that is cut: the side that gives heard the same, and of its answer, which it may not have written whole,
--- the side that pulls could read a beginning, and stopped; these are the cells that it had by then
+-- a session that is cut: the side that gives heard the same; of its answer, which it may not have written whole, the
+-- side that pulls could read a beginning, and stopped; these are the cells that it had by then
 pub record IsCutSession (s : Layout) (had given : Cells) (cells : List NamedCell) : Type 0 where
   pub before : List ℕ
   pub heard : List ℕ
@@ -99,7 +98,7 @@ SidesHaveACutSession =
     (s : Layout) (had given : Cells) → IsLayout s → All (IsCellOf s) (entries had) → All (IsCellOf s) (entries given)
     → IsCutSession s had given []
 
--- none where nothing came, as from a side that stopped before it heard all that was sent
+-- none if nothing came, as from a side that stopped before it heard all that was sent
 abbrev pub SilentSessionsBringNothing : Type 0
 SilentSessionsBringNothing =
     (s : Layout) (sent limit : ℕ) (left : Option (List ℕ)) (fault : GossipFault) (cells : List NamedCell) → IsLayout s
@@ -110,7 +109,8 @@ SilentSessionsBringNothing =
 abbrev pub now_at : ℕ → Moment
 now_at origin = record { origin = origin; ago = 0 }
 
--- once a node has taken these cells it holds these, and it has the live marks of what both sides knew
+-- once a node has taken the cells with these names, it holds these cells, and has the live marks of what both sides
+-- knew
 pub record HasTakenAll (s : Layout) (deeds : List Deed) (origin : ℕ) (there : Moment) (names : List CellName)
     (after : Cells) : Type 0 where
   pub cells : held_at (after_all cell_model s (deeds ++ takes origin there names)) (now_at origin) ≡ Some after
@@ -131,7 +131,7 @@ SessionsAreDeeds =
     → held_at (after_all cell_model s deeds) there ≡ Some given → IsSession s had given cells
     → HasTakenAll s deeds origin there (names_lacking given had) (join_cells s had cells)
 
--- and these deeds are what a keeper did that pulled so, as the contracts of its `pull` and its `schema` have it
+-- and these deeds are what a keeper that pulled so did, as the contracts of its `pull` and its `schema` say
 abbrev pub PullIsDeeds : Type 0
 PullIsDeeds =
     (opening : List Op) (old new : KeeperState) (n : Node Cells) (given : Cells) (cells : List NamedCell)

@@ -27,7 +27,7 @@ is_shared (Own b) = false
 is_shared (Finished f) = true
 is_shared (Packed p) = true
 
--- whether the entry of an origin takes no memory: a shared block is copied or unpacked first
+-- whether the entry of an origin takes no memory; a shared block has to be copied or unpacked first
 abbrev pub has_room_held : HeldBlock → ℕ → ℕ → Bool
 has_room_held (Own b) number origin = has_room_in b.value number origin
 has_room_held (Finished f) number origin = false
@@ -83,7 +83,7 @@ abbrev pub starts_before : ℤ → List (ℤ × HeldBlock) → Bool
 starts_before number [] = false
 starts_before number (b ∷ bs) = int_lt b.0 number
 
--- the entries that are stored of a slot, live or not
+-- the entries that are stored for a slot, live or not
 abbrev pub row_at : Blocks → ℤ → List Entry
 row_at b = items_by_slot (all_blocks b)
 

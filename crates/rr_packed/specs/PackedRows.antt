@@ -1,4 +1,4 @@
--- The rows of a block as packed bytes: as the slot of each cell they have the number of its row.
+-- The rows of a block as packed bytes: each cell has the number of its row in place of its slot.
 use Rattle.std.specs.Prelude.{◌≡◌, ℕ, zero, suc, ◌+◌, ◌==◌, ℤ, pos, ◌+ℤ◌, int_lt, Bool, true, false, not, ◌&&◌, List, [], ◌∷◌, ◌++◌, length, map, Result, Ok, Err, IsTrue, refl}
 use Rattle.std.specs.Int.{bit_at}
 use Rattle.std.specs.List.{filter}
@@ -27,7 +27,7 @@ entries_at cells slot = map (λ c. c.1) (filter (λ c. int_eq c.0 slot) cells)
 unfoldable pub items_packed : List ℕ → ℕ → List Entry
 items_packed bytes number = entries_at (cells_packed bytes) (pos number)
 
--- the cells of `n` rows from the first on, that of a slot, in order
+-- the cells of the first `n` rows, in order, the first row in this slot
 unfoldable pub cells_of_rows : (ℕ → List Entry) → ℤ → ℕ → List SlotEntry
 cells_of_rows row slot zero = []
 cells_of_rows row slot (suc n) = map (λ e. (slot, e)) (row 0) ++ cells_of_rows (λ i. row (suc i)) (slot +ℤ pos 1) n
@@ -37,7 +37,7 @@ abbrev pub is_whole : Result (List SlotEntry × List ℕ) CodecFault → Bool
 is_whole (Ok x) = length x.1 == 0
 is_whole (Err fault) = false
 
--- bytes hold cells, those of 64 rows in order
+-- bytes hold the cells of 64 rows, in order
 pub record ArePackedRows (bytes : List ℕ) : Type 0 where
   pub whole : IsTrue (is_whole (packed_at bytes))
   pub ordered : cells_packed bytes ≡ cells_of_rows (items_packed bytes) (pos 0) 64
@@ -46,13 +46,13 @@ pub record ArePackedRows (bytes : List ℕ) : Type 0 where
 abbrev pub AreMasked : ℕ → List ℕ → Type 0
 AreMasked mask bytes = (number : ℕ) → bit_at mask number ≡ 0 → items_packed bytes number ≡ []
 
--- ---- the cells that are left as they are read
+-- ---- the cells still left as they are read
 
 abbrev pub left_of : Result (List SlotEntry) CodecFault → List SlotEntry
 left_of (Ok cells) = cells
 left_of (Err fault) = []
 
--- whether cells are of rows from one on, in order
+-- whether cells are of a block's rows, from one on, in order
 unfoldable pub ascend_from : ℤ → List SlotEntry → Bool
 ascend_from low [] = true
 ascend_from low (c ∷ cs) = not (int_lt c.0 low) && (int_lt c.0 (pos 64) && ascend_from c.0 cs)

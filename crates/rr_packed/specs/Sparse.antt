@@ -19,7 +19,7 @@ item_at mask items number = option_and_then (slice_get items) (place_at mask num
 abbrev pub item_in : {T : Type 0} → Sparse T → ℕ → Option T
 item_in s number = item_at s.mask s.items.items number
 
--- whether there is room for an item more
+-- whether there is room for one more item
 abbrev pub has_room : {T : Type 0} → Sparse T → Bool
 has_room s = nat_lt (vec_len s.items) (vec_capacity s.items)
 

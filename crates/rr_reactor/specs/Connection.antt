@@ -12,7 +12,7 @@ item_of c = c.out
 abbrev pub IsOut : {S : Type 0} → Connection S → Type 0
 IsOut c = IsSome c.out
 
--- one is given only where none is out, and then it is out
+-- one is given only if none is out, and then it is out
 abbrev pub GivesOne : Option ℕ → Option Work → Option ℕ → Type 0
 GivesOne old None new = new ≡ old
 GivesOne old (Some work) new = (old ≡ None) × IsSome new

@@ -7,7 +7,7 @@ use Rattle.rr_reactor.specs.declared.watch.Watch.{Watch}
 use Rattle.rr_reactor.specs.declared.watch.Candidate.{Candidate}
 use Rattle.rr_reactor.specs.declared.watch.TheConstants.{GRACE}
 
--- for how long a connection may wait so
+-- how long a connection may wait in this stage
 abbrev pub allowed : Limits → Stage → Option ℕ
 allowed limits Idle = Some limits.idle
 allowed limits Head = Some limits.head
@@ -24,7 +24,7 @@ is_idle Answer = false
 is_idle Download = false
 is_idle Refused = false
 
--- the client's bytes are waited for within a request, or behind a refusal
+-- the client's bytes are waited for within a request, or after a refusal
 abbrev pub is_within_request : Stage → Bool
 is_within_request Idle = false
 is_within_request Head = true
@@ -42,12 +42,12 @@ same_stage Download Download = true
 same_stage Refused Refused = true
 same_stage a b = false
 
--- the time begins anew with another stage, and with each byte where a connection is idle
+-- the time begins anew with another stage, and with each byte while a connection is idle
 abbrev pub noted : Watch → Stage → Bool → ℕ → Watch
 noted watch stage has_moved now =
     if same_stage stage watch.stage && not (has_moved && is_idle stage) then watch else record { stage = stage; since = now }
 
--- the time that is allowed is over
+-- the allowed time is over
 abbrev pub is_over : ℕ → ℕ → Option ℕ → Bool
 is_over since now None = false
 is_over since now (Some time) = nat_le time (now - since)
@@ -63,7 +63,8 @@ abbrev pub candidate : Watch → ℕ → ℕ → Option Candidate
 candidate watch key now =
     if may_go watch now then Some (record { key = key; is_idle = is_idle watch.stage; since = watch.since }) else None
 
--- one goes no later than another: it is idle, and the other isn't, or they are alike, and it has waited as long
+-- one goes no later than another: it is idle and the other isn't, or they are alike in that, and it has waited at least
+-- as long
 abbrev pub GoesBefore : Candidate → Candidate → Type 0
 GoesBefore a b =
     (IsTrue a.is_idle × IsFalse b.is_idle) ⊎ ((a.is_idle ≡ b.is_idle) × (a.since ≤ b.since))
@@ -73,7 +74,7 @@ GoesBeforeAny None other = other ≡ None
 GoesBeforeAny (Some a) None = ⊤
 GoesBeforeAny (Some a) (Some b) = GoesBefore a b
 
--- of two connections, if there are any, the one that goes first
+-- the one of two connections, if there are any, that goes first
 pub record IsFirstToGo (first second chosen : Option Candidate) : Type 0 where
   pub one : (chosen ≡ first) ⊎ (chosen ≡ second)
   pub before_first : GoesBeforeAny chosen first

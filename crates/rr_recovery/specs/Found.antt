@@ -5,7 +5,7 @@ use Rattle.std.specs.Cmp.Lexicographic.{pointwise}
 use Rattle.rr_journal.specs.declared.cursor.Cursor.{Cursor}
 use Rattle.rr_recovery.specs.declared.found.Found.{Found}
 
--- the last origin of records, for each journal the last cursor, the number that the last end of a checkpoint states, and
+-- the last recorded origin, the last cursor of each journal, the number that the last end of a checkpoint states, and
 -- how many records and cells were read
 pub record FoundState : Type 0 where
   pub origin : Option ℕ
@@ -21,16 +21,16 @@ found_state f = record { origin = f.origin; cursors = f.cursors.items; end = f.e
 abbrev pub nothing_found : FoundState
 nothing_found = record { origin = None; cursors = []; end = None; records = 0; cells = 0 }
 
--- with a cursor in place of the one at a place, or behind all
+-- with a cursor in place of the one at an index, or behind all
 abbrev pub put_at : List Cursor → Cursor → Option ℕ → List Cursor
 put_at cs c None = cs ++ c ∷ []
 put_at cs c (Some i) = set cs i c
 
--- with a cursor in place of that of its journal, or behind all where there is none
+-- with a cursor in place of its journal's, or behind all if there is none
 abbrev pub with_cursor : List Cursor → Cursor → List Cursor
 with_cursor cs c = put_at cs c (position (λ d. pointwise nat_eq d.id c.id) cs)
 
--- one cell more; the count stops at its greatest value
+-- one more cell; the count stops at its greatest value
 abbrev pub one_more : FoundState → FoundState
 one_more f = record {
   origin = f.origin;
@@ -40,7 +40,7 @@ one_more f = record {
   cells = min (f.cells + 1) (2 ^ 64 - 1);
 }
 
--- one record more, likewise
+-- one more record, likewise
 abbrev pub one_record : FoundState → FoundState
 one_record f = record {
   origin = f.origin;

@@ -14,12 +14,12 @@ use Rattle.rr_journal.specs.Body.{Meaning, PackedCells, HasCells, HasOrigin, Has
 abbrev pub named_by : List ℕ → ℕ → SlotEntry → NamedCell
 named_by key archive e = (cell_name key archive e.0 e.1.origin, e.1.contribution)
 
--- the cells that were read; none where they are refused
+-- the cells that were read; none if they were refused
 abbrev pub cells_read : Result (List SlotEntry) CodecFault → List SlotEntry
 cells_read (Ok es) = es
 cells_read (Err fault) = []
 
--- the cells of a group are of its key and its archive
+-- the cells of a group, under its key and archive
 abbrev pub group_cells : PackedCells → List NamedCell
 group_cells g = map (named_by g.key g.archive) (cells_read (cells_of g.bytes))
 

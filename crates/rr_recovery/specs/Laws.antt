@@ -58,12 +58,12 @@ IsHistory s m (r ∷ rs) (n ∷ ns) =
     ((meaning : Meaning) × (record_meaning s r ≡ Ok meaning) × (join_cells s m (cells_of_record meaning) ≡ n))
     × IsHistory s n rs ns
 
--- the last of some maps, or the one before them
+-- the last of some maps, or if there are none, the one before them
 abbrev pub last_map : Cells → List Cells → Cells
 last_map m [] = m
 last_map m (n ∷ ns) = last_map n ns
 
--- of a journal of such records any prefix, wherever it is cut, makes the map after the last record that is whole in it
+-- any prefix of a journal of such records, wherever it is cut, makes the map after the last record that is whole in it
 abbrev pub PrefixesMakeTheirMap : Type 0
 PrefixesMakeTheirMap =
     (before : List ℕ) (x y : Recovery) (rs : List Raw) (ms : List Cells) (n : ℕ) → AllFit rs
@@ -71,7 +71,7 @@ PrefixesMakeTheirMap =
     → taken_records x (records_of before (take n (records_text before rs))).0 ≡ Ok y
     → y.replica.cells ≡ last_map x.replica.cells (take (length (whole_within n rs)) ms)
 
--- to join cells again, from any of them on, changes nothing
+-- joining cells again, from any of them on, changes nothing
 abbrev pub ReplaysAreRepeatable : Type 0
 ReplaysAreRepeatable =
     (s : Layout) (m : Cells) (es fs : List NamedCell) → IsLayout s → IsTrimmed s m
@@ -81,7 +81,7 @@ ReplaysAreRepeatable =
 abbrev pub Holds : Layout → Cells → Cells → Type 0
 Holds s m n = join s m n ≡ m
 
--- whatever a crash left behind synced records, the map that is replayed holds all that theirs does
+-- whatever a crash left after synced records, the map that is replayed holds all that theirs does
 abbrev pub SyncedIsThere : Type 0
 SyncedIsThere =
     (before : List ℕ) (x y : Recovery) (rs : List Raw) (tail : List ℕ) → IsLayout x.replica.schema

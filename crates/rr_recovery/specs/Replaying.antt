@@ -12,7 +12,7 @@ use Rattle.rr_recovery.specs.declared.fault.RecoveryFault.TheVariants.{ReadFaile
 use Rattle.rr_recovery.specs.declared.origins.TheConstants.{ORIGIN, FIRST}
 use Rattle.rr_recovery.specs.Taking.{Recovery, as_bad, taken_records}
 
--- bytes at a place were read up to where no whole record is, which is told, and is now the place
+-- bytes at a place were read up to where no whole record is, which is the place now; and why is given
 pub record ReadsAll (old new : Cursor) (bytes : List ℕ) (told : Stop) : Type 0 where
   pub place : new ≡ behind_all old (records_of old.digest bytes).0
   pub stop : told ≡ stop_of old.digest bytes
@@ -21,7 +21,8 @@ pub record ReadsAll (old new : Cursor) (bytes : List ℕ) (told : Stop) : Type 0
 abbrev pub IsFaultOf : {A : Type 0} → Result A RecoveryFault → RecoveryFault → Type 0
 IsFaultOf answer fault = (fault ≡ ReadFailed) ⊎ (fault ≡ Memory) ⊎ (answer ≡ Err fault)
 
--- the records that bytes at a place begin with were taken, one after the other, all of them or up to the first fault
+-- all records at the beginning of the bytes from a place on were taken, one after the other; or this is why they can't
+-- all be taken
 abbrev pub Replays : Cursor → Cursor → Recovery → Recovery → List ℕ → Result Stop RecoveryFault → Type 0
 Replays place new_place old new bytes (Ok stop) =
     (taken_records old (records_of place.digest bytes).0 ≡ Ok new) × ReadsAll place new_place bytes stop
@@ -29,17 +30,17 @@ Replays place new_place old new bytes (Err fault) = IsFaultOf (taken_records old
 
 -- ---- origins alone
 
--- the origin that a record is of, if it is one of an origin; else the one before it
+-- the origin that a record states, if it is one of an origin; else the one before it
 abbrev pub origin_after : Option ℕ → Raw → Result (Option ℕ) RecoveryFault
 origin_after before r =
     if r.kind % FIRST == ORIGIN then (as_bad (origin_of r.body) >>= λ origin. Ok (Some origin)) else Ok before
 
--- that of the last record of an origin, if there is one; else the one before them
+-- the origin that the last such record states, if there is one; else the one before them
 abbrev pub last_origin : Option ℕ → List Raw → Result (Option ℕ) RecoveryFault
 last_origin before [] = Ok before
 last_origin before (r ∷ rs) = origin_after before r >>= λ origin. last_origin origin rs
 
--- the last origin of the records that bytes at a place begin with was found
+-- the last origin was found in the records at the beginning of the bytes from a place on
 abbrev pub FindsOrigin : Cursor → Cursor → List ℕ → Result (Stop × Option ℕ) RecoveryFault → Type 0
 FindsOrigin place new_place bytes (Ok x) =
     (last_origin None (records_of place.digest bytes).0 ≡ Ok x.1) × ReadsAll place new_place bytes x.0

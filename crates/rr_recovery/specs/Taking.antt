@@ -17,7 +17,7 @@ use Rattle.rr_recovery.specs.declared.found.Found.{Found}
 use Rattle.rr_recovery.specs.Found.{FoundState, found_state, one_more, one_record, with_cursor}
 use Rattle.rr_recovery.specs.Joining.{JoinsSome, group_cells}
 
--- packed cells of one of a schema's archives, as it may have them
+-- packed cells that one of a schema's archives may have
 abbrev pub IsCheckedGroup : Layout → PackedCells → Type 0
 IsCheckedGroup s g = (g.archive < length s.archives) × IsOk (checked_count s g.archive g.bytes)
 
@@ -41,12 +41,12 @@ with_found x found = record { replica = x.replica; found = found }
 abbrev pub with_record : Recovery → Recovery
 with_record x = with_found x (one_record x.found)
 
--- these cells are joined, up to the first of the replica's own origin
+-- these cells are joined in, unless one is of the replica's own origin
 abbrev pub taken_cells : Recovery → List NamedCell → Result Recovery RecoveryFault
 taken_cells x [] = Ok x
 taken_cells x (e ∷ es) = unless OriginUsed (e.0.origin == x.replica.origin) (taken_cells (with_one x e) es)
 
--- by what a record means its cells are joined, or its origin, its cursor or its number is found
+-- by what a record means: its cells are joined, or its origin, cursor or number is found
 abbrev pub taken : Recovery → Meaning → Result Recovery RecoveryFault
 taken x (HasCells groups) = taken_cells x (flat_map group_cells groups)
 taken x (HasOrigin origin) = unless OriginUsed (origin == x.replica.origin) (Ok (with_found x
@@ -73,7 +73,7 @@ taken x (HasEnded count) = Ok (with_found x
       cells = x.found.cells;
     }))
 
--- a result of records, with their faults as a recovery's
+-- a result of records, its fault as a recovery's
 abbrev pub as_bad : {A : Type 0} → Result A JournalFault → Result A RecoveryFault
 as_bad (Ok x) = Ok x
 as_bad (Err fault) = Err (BadRecord fault)

@@ -1,4 +1,4 @@
--- The printed names of faults: each is its variant's, or that of the fault below.
+-- The printed names of faults: each is its variant's, or that of the fault within.
 use Rattle.std.specs.Prelude.{ℕ, List, codes}
 use Rattle.rr_journal.specs.Fault.{journal_fault_name}
 use Rattle.rr_replication.specs.declared.fault.PartFault.{PartFault}

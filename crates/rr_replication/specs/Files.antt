@@ -8,8 +8,8 @@ use Rattle.rr_replication.specs.Part.{part_from}
 
 -- ---- any part
 
--- a part of this length, from an offset on, lies in one file: it has at least one byte, none behind the end, and none
--- behind where the next file begins
+-- a part of this length, from an offset on, lies in one file: it has at least one byte, no more than a part may have,
+-- none behind the end, and none behind where the next file begins
 pub record AreWithin (files : List ℕ) (end from file skip len : ℕ) : Type 0 where
   pub begins : Contains files file
   pub skipped : file + skip ≡ from
@@ -55,7 +55,7 @@ given (suc n) begin files end from =
     let bytes = bytes_of begin files (part_from (offsets begin files) end from) in
     bytes ++ given n begin files end (from + length bytes)
 
--- if they are no fewer than the bytes from there up to the end, they are these bytes, without gap or overlap
+-- if the parts are no fewer than the bytes from there up to the end, they are these bytes, without gap or overlap
 abbrev pub PartsComeToTheEnd : Type 0
 PartsComeToTheEnd =
     (n begin end from : ℕ) (files : List (List ℕ)) → HaveBytes files → begin ≤ from → from ≤ end

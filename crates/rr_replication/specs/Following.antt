@@ -21,14 +21,14 @@ use Rattle.rr_replication.specs.declared.position.Position.TheVariants.{Journal,
 use Rattle.rr_replication.specs.Position.{greeting_target, target_of}
 use Rattle.rr_replication.specs.Reading.{PeerState, after_part, peer_state}
 
--- from a place on a part is read, and the answer is the place behind it
+-- a part is read from a place on, and the answer is the place behind it
 abbrev pub ReadsOn : Layout → PeerState → List Cell → List ℕ → Result Cursor PartFault → Type 0
 ReadsOn s before cells bytes result =
     GivesUnless Memory (λ end. peer_state end cells) result (after_part s before bytes)
 
 -- ---- what is asked for
 
--- what is asked for by where a node is, if its peer was greeted, and else by the greeting
+-- what is asked for: by where a node is, if its peer was greeted; else by the greeting
 abbrev pub target_by : Layout → Bool → Option Position → List ℕ
 target_by s true (Some position) = target_of s position
 target_by s true None = greeting_target s
@@ -37,7 +37,7 @@ target_by s false position = greeting_target s
 abbrev pub asked_target : Layout → Following → List ℕ
 asked_target s f = target_by s f.is_greeted f.position
 
--- where the node is that asks for it; nowhere, if it asks for the greeting
+-- where the node that asks for it is; nowhere, if it asks for the greeting
 abbrev pub position_by : Bool → Option Position → Option Position
 position_by true position = position
 position_by false position = None
@@ -47,7 +47,7 @@ asked_position f = position_by f.is_greeted f.position
 
 -- ---- the journal
 
--- the place in the journal from which on that is asked for, if it is of the journal
+-- the place from which the journal is asked for, if it is asked for
 abbrev pub place_by : Bool → Option Position → Option Cursor
 place_by true (Some (Journal place)) = Some place
 place_by true (Some Newest) = None
@@ -58,17 +58,17 @@ place_by false position = None
 abbrev pub asked_place : Following → Option Cursor
 asked_place f = place_by f.is_greeted f.position
 
--- up to where the journal is read
+-- how far the journal is read
 abbrev pub read_in : Next → Option Cursor
 read_in (More read) = read
 read_in UpToDate = None
 
--- up to there a part was read from a place on, and its cells are behind those before
+-- a part was read from a place up to there, and its cells are behind those from before
 abbrev pub IsReadUpTo : Layout → Cursor → List Cell → List ℕ → List Cell → Next → Type 0
 IsReadUpTo s place had bytes cells next =
     IfSome (read_in next) (λ end. after_part s (peer_state place had) bytes ≡ Ok (peer_state end cells))
 
--- where the node is then: behind what was read; before the newest checkpoint, if the peer no longer has what was asked
+-- where the node is then: past what was read; before the newest checkpoint, if the peer no longer has what was asked
 -- for; or where it was, if there is nothing new
 abbrev pub after_journal : Cursor → Next → Position
 after_journal place (More (Some end)) = Journal end
@@ -92,8 +92,8 @@ asks_newest f = newest_by f.is_greeted f.position
 abbrev pub FileBegins : Layout → List ℕ → Cursor → Type 0
 FileBegins s bytes begins = (rest : List ℕ) × (header_at s (take (header_len s) bytes) ≡ Ok (begins, rest))
 
--- a checkpoint was begun: the header of its file says where it begins in the journal of this id, the rest was read as a
--- part from there on, and the node is behind that part; the journal is read no further
+-- a checkpoint was begun: the header of its file says where it begins in the journal with this id, the rest was read as
+-- a part from there on, and the node is past that part; the journal is read no further
 pub record IsBegun (s : Layout) (id : List ℕ) (had : List Cell) (bytes : List ℕ) (cells : List Cell)
     (position : Option Position) (next : Next) : Type 0 where
   pub begins : Cursor
@@ -104,7 +104,7 @@ pub record IsBegun (s : Layout) (id : List ℕ) (had : List Cell) (bytes : List 
   pub position_is : position ≡ Some (Checkpoint begins end)
   pub next_is : next ≡ More None
 
--- of the checkpoint that is gone on with, if one is: where it begins, and how far it is read
+-- where the checkpoint being read begins, and how far it is read, if there is one
 abbrev pub checkpoint_by : Bool → Option Position → Option (Cursor × Cursor)
 checkpoint_by true (Some (Checkpoint begins place)) = Some (begins, place)
 checkpoint_by true (Some Newest) = None
@@ -115,7 +115,7 @@ checkpoint_by false position = None
 abbrev pub asked_checkpoint : Following → Option (Cursor × Cursor)
 asked_checkpoint f = checkpoint_by f.is_greeted f.position
 
--- a part of it was read from there on, and the node is behind that part
+-- a part of it was read from there on, and the node is past that part
 pub record IsReadOn (s : Layout) (at : Cursor × Cursor) (had : List Cell) (bytes : List ℕ) (cells : List Cell)
     (position : Option Position) (next : Next) : Type 0 where
   pub end : Cursor
@@ -123,7 +123,7 @@ pub record IsReadOn (s : Layout) (at : Cursor × Cursor) (had : List Cell) (byte
   pub position_is : position ≡ Some (Checkpoint at.0 end)
   pub next_is : next ≡ More None
 
--- the checkpoint has no more: no cells were added, and the journal is gone on with from where the checkpoint begins
+-- the checkpoint has no more: no cells were added, and the journal is read on from where the checkpoint begins
 pub record IsAtEnd (at : Cursor × Cursor) (had cells : List Cell) (position : Option Position)
     (result : Result Next PeerFault) : Type 0 where
   pub same : cells ≡ had
@@ -132,7 +132,7 @@ pub record IsAtEnd (at : Cursor × Cursor) (had cells : List Cell) (position : O
 
 -- ---- the greeting
 
--- where the journal of an id was read up to, or where it begins
+-- how far the journal with an id was read, or where it begins
 abbrev pub known_place : List Cursor → List ℕ → Cursor
 known_place known id = unwrap_or (find (λ c. pointwise nat_eq c.id id) known) (start id)
 
@@ -146,8 +146,8 @@ places_by known None = known
 abbrev pub places_of : Following → List Cursor
 places_of f = places_by f.known.items f.position
 
--- where the node is in the store of a peer with a journal of an id: where it was, if it was in that one's, and else where
--- that journal was read up to
+-- where the node is in the store of a peer whose journal has an id: where it was, if it was in that one's; else as far
+-- as that journal was read
 abbrev pub greeted_by : Option Position → Bool → Cursor → Position
 greeted_by (Some position) true known = position
 greeted_by (Some position) false known = Journal known
@@ -156,7 +156,7 @@ greeted_by None same known = Journal known
 abbrev pub greeted_position : Following → List ℕ → Position
 greeted_position f id = greeted_by f.position (pointwise nat_eq f.id id) (known_place (places_of f) id)
 
--- the peer was greeted, and told the id of its journal, which says where the node is then
+-- the peer was greeted and gave the id of its journal, which says where the node is then
 pub record IsGreeted (old : Following) (answer : PeerAnswer) (new : Following) (next : Next) : Type 0 where
   pub status : answer.status ≡ 204
   pub told : answer.id ≡ Some new.id

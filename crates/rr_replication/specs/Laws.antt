@@ -19,8 +19,8 @@ use Rattle.rr_replication.specs.Reading.{PeerState, after_part, with_records}
 
 -- ---- what is read
 
--- a part of the text of records that holds the first of them is taken, if each whole one means something: the peer is
--- then behind the whole ones, and has their cells
+-- a part of the text of records that holds the first one whole is taken, if each whole one means something: the peer is
+-- then past the whole ones, and has their cells
 abbrev pub PartsAreTaken : Type 0
 PartsAreTaken =
     (s : Layout) (x : PeerState) (r : Raw) (rs : List Raw) (len : ℕ) (ms : List Meaning) → AllFit (r ∷ rs)
@@ -34,13 +34,13 @@ after_parts s x begin text [] = Ok x
 after_parts s x begin text (len ∷ lens) =
     after_part s x (take len (drop (x.place.offset - begin) text)) >>= λ y. after_parts s y begin text lens
 
--- a peer has read these records: it is behind them, and has the cells of what they mean
+-- a peer has read these records: it is past them, and has the cells of what they mean
 pub record HasRead (s : Layout) (x y : PeerState) (rs : List Raw) : Type 0 where
   pub meanings : List Meaning
   pub read : meanings_of s rs ≡ Ok meanings
   pub state : y ≡ with_records x rs meanings
 
--- a peer has read the first of these records, and no others; all of them, if it is where they end
+-- a peer has read a prefix of these records, and no others; all of them, if it is where they end
 pub record HasReadSome (s : Layout) (x y : PeerState) (rs : List Raw) : Type 0 where
   pub first : List Raw
   pub later : List Raw
@@ -48,8 +48,8 @@ pub record HasReadSome (s : Layout) (x y : PeerState) (rs : List Raw) : Type 0 w
   pub read : HasRead s x y first
   pub all : y.place.offset ≡ x.place.offset + records_len rs → first ≡ rs
 
--- whoever reads parts of the text of records, one after the other, has read the records up to its place, wherever the
--- parts end
+-- a peer that reads parts of the text of records, one after the other, has read the records up to its place, wherever
+-- the parts end
 abbrev pub PartsBringTheRecords : Type 0
 PartsBringTheRecords =
     (s : Layout) (x y : PeerState) (rs : List Raw) (lens : List ℕ) → AllFit rs
@@ -62,7 +62,7 @@ PartsBringTheRecords =
 abbrev pub all_records : List (List Raw) → List Raw
 all_records files = flat_map (λ rs. rs) files
 
--- the bytes of each file, after the digest of the record before it
+-- the bytes of each file, chained to the digest of the record before it
 abbrev pub texts : List ℕ → List (List Raw) → List (List ℕ)
 texts before [] = []
 texts before (rs ∷ files) = records_text before rs ∷ texts (chain before rs) files
@@ -73,15 +73,15 @@ HaveRecords [] = Unit {0}
 HaveRecords (rs ∷ []) = Unit {0}
 HaveRecords (rs ∷ (next ∷ files)) = (1 ≤ length rs) × HaveRecords (next ∷ files)
 
--- after a peer has asked a node this number of times, each time from its place on
+-- after a peer has asked a node this many times, each time from its place on
 abbrev pub follow : ℕ → Layout → ℕ → List (List ℕ) → ℕ → PeerState → Result PeerState PartFault
 follow zero s begin files end x = Ok x
 follow (suc n) s begin files end x =
     after_part s x (bytes_of begin files (part_from (offsets begin files) end x.place.offset))
     >>= λ y. follow n s begin files end y
 
--- a peer that is behind some of a node's records is refused none of the parts that the node gives it, if the others
--- mean something; once it has asked as often as there are others, it is behind them, and has their cells
+-- a peer that has read some of a node's records is refused none of the parts that the node gives it, if the others mean
+-- something; once it has asked as often as there are others, it is past them, and has their cells
 abbrev pub PeersCatchUp : Type 0
 PeersCatchUp =
     (s : Layout) (begin : Cursor) (files : List (List Raw)) (done others : List Raw) (x : PeerState) (ms : List Meaning)

@@ -4,16 +4,16 @@ use Rattle.rr_replication.specs.declared.part.Part.{Part}
 use Rattle.rr_replication.specs.declared.part.Part.TheVariants.{Bytes, Nothing, Gone}
 use Rattle.rr_replication.specs.declared.part.TheConstants.{MAX_PART}
 
--- the later of two beginnings, of which there may be only the second
+-- the later of two beginnings, the first of which may be absent
 abbrev pub latest : Option ℕ → ℕ → Option ℕ
 latest None file = Some file
 latest (Some begin) file = Some (max begin file)
 
--- where the second counts only if it is not above an offset
+-- the same, but the second counts only if it isn't above an offset
 abbrev pub later : Option ℕ → ℕ → ℕ → Option ℕ
 later begin file from = if nat_lt from file then begin else latest begin file
 
--- the sooner of an end and a file's beginning, which counts only if it is above an offset
+-- the earlier of an end and a file's beginning, which counts only if it is above an offset
 abbrev pub sooner : ℕ → ℕ → ℕ → ℕ
 sooner end file from = if nat_lt from file then min end file else end
 

@@ -9,12 +9,12 @@ use Rattle.rr_journal.specs.Header.{header_len}
 use Rattle.rr_replication.specs.declared.position.Position.{Position}
 use Rattle.rr_replication.specs.declared.position.Position.TheVariants.{Journal, Newest, Checkpoint}
 
--- where its journal is, if the schema is this one and values have as many decimals
+-- where its journal is, if its schema is this one and its values have as many decimals
 abbrev pub greeting_target : Layout → List ℕ
 greeting_target s =
     codes "/journal?decimals=" ++ decimal DECIMALS ++ codes "&schema=" ++ encode_lower (schema_bytes s)
 
--- the byte of a checkpoint's file at which its records go on: behind its header and those that are read
+-- the byte of a checkpoint's file at which its records go on: behind its header and the records already read
 abbrev pub byte_of : Layout → Cursor → Cursor → ℕ
 byte_of s begins place = min ((place.offset - begins.offset) + header_len s) (2 ^ 64 - 1)
 

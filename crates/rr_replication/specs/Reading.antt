@@ -19,7 +19,7 @@ use Rattle.rr_recovery.specs.Laws.{cells_of_all, meanings_of}
 use Rattle.rr_replication.specs.declared.fault.PartFault.{PartFault}
 use Rattle.rr_replication.specs.declared.fault.PartFault.TheVariants as part
 
--- a result of records, with their faults as a part's
+-- a result of records, its fault as a part's
 abbrev pub as_bad : {A : Type 0} → Result A JournalFault → Result A PartFault
 as_bad (Ok x) = Ok x
 as_bad (Err fault) = Err (part.BadRecord fault)
@@ -34,7 +34,7 @@ record_cells s r = as_bad (record_meaning s r) >>= λ m. Ok (cells_of_record m)
 abbrev pub AreCellsOf : Layout → List Cell → Type 0
 AreCellsOf s cells = AllByRecursion (λ c. IsCellOf s (owned_cell c)) cells
 
--- behind the cells that were there come others, which are of a schema
+-- the cells that were there are followed by others, which are of a schema
 pub record Keeps (s : Layout) (old new : List Cell) : Type 0 where
   pub more : List Cell
   pub kept : new ≡ old ++ more
@@ -72,11 +72,11 @@ ends_part End first = Ok tt
 ends_part Torn first = if first then Err part.Damaged else Ok tt
 ends_part (Damaged why) first = Err part.Damaged
 
--- behind these records, and with the cells of what they mean
+-- past these records, and with the cells of what they mean
 abbrev pub with_records : PeerState → List Raw → List Meaning → PeerState
 with_records x rs ms = record { place = behind_all x.place rs; cells = x.cells ++ cells_of_all ms }
 
--- after a part, if each of its whole records means something, and no more is left behind them than a cut record
+-- after a part, if each of its whole records means something, and nothing but a cut record is left behind them
 abbrev pub after_part : Layout → PeerState → List ℕ → Result PeerState PartFault
 after_part s x bytes =
     as_bad (meanings_of s (records_in x.place bytes)) >>= λ ms. ends_part (stop_of x.place.digest bytes)

@@ -28,7 +28,7 @@ form_in query = named (parameter_of query (codes "format"))
 abbrev pub refusal_text : List ℕ → List ℕ
 refusal_text name = codes "error " ++ name ++ LINE_FEED ∷ []
 
--- records of CSV of a key, in a form
+-- the CSV records of a key, in a form
 abbrev pub records_reply : Form → List ℕ → List ℕ → ReplyView
 records_reply Csv key records = reply_of status.Ok kind.Csv records
 records_reply Json key records = reply_of status.Ok kind.Json (fetch_json key records)

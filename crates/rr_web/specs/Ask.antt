@@ -27,7 +27,7 @@ is_of_lines path = bytes_eq path (codes "/write") || bytes_eq path (codes "/api/
 abbrev pub is_get : List ℕ → Bool
 is_get method = bytes_eq method (codes "GET") || bytes_eq method (codes "HEAD")
 
--- what is read, if something is and the method reads
+-- what is read there, if anything is and the method reads
 abbrev pub by_get : Bool → Ask → Ask
 by_get reads Nothing = Nothing
 by_get true ask = ask

@@ -62,7 +62,7 @@ abbrev pub labels_text : List (List ℕ × List ℕ) → List ℕ
 labels_text [] = []
 labels_text (label ∷ labels) = codes "{" ++ label_text label ++ flat_map next_label_text labels ++ codes "}"
 
--- thousandths, with three digits behind the point
+-- thousandths, with three digits after the point
 abbrev pub thousandths_text : ℕ → List ℕ
 thousandths_text n =
     decimal (n / 1000) ++ codes "." ++ digit_char (n / 100 % 10) ∷ digit_char (n / 10 % 10) ∷ digit_char (n % 10) ∷ []

@@ -31,11 +31,11 @@ words_view w = record {
   key = w.key.items;
 }
 
--- the second so many seconds before another
+-- the second this many seconds before another
 abbrev pub second_before : ℤ → ℕ → List ℕ
 second_before end seconds = signed_decimal (saturate_signed w64 (end -ℤ pos seconds))
 
--- the second that a text of `last` goes back to; a text that is no number stays, to be refused as BadNumber
+-- the second that a text of `last` goes back to; a text that isn't a number stays, to be refused as BadNumber
 abbrev pub back_to : ℤ → List ℕ → Option ℕ → List ℕ
 back_to end text None = text
 back_to end text (Some seconds) = second_before end seconds
@@ -77,7 +77,7 @@ request_of s (Some words) = read s words
 abbrev pub request_in : Layout → List ℕ → ℤ → Result Request RequestFault
 request_in s query now = request_of s (words_in query now)
 
--- a form and a request, or the name of why there is none
+-- a form and a request, or the name of why there isn't one
 abbrev pub asked_by : Option Form → Result Request RequestFault → Result (Form × Request) (List ℕ)
 asked_by None request = Err (codes "BadFormat")
 asked_by (Some form) (Err fault) = Err (request_fault_name fault)

@@ -13,7 +13,7 @@ abbrev pub failing_reply : List ℕ → ReplyView
 failing_reply why = reply_of status.Busy kind.Json
     (codes "{\"name\":\"rr\",\"status\":\"fail\",\"message\":" ++ quoted why ++ codes "}\n")
 
--- whether it can, by why it can't
+-- whether it can, or why it can't
 abbrev pub health_reply : Option (List ℕ) → ReplyView
 health_reply None = reply_of status.Ok kind.Json (codes "{\"name\":\"rr\",\"status\":\"pass\"}\n")
 health_reply (Some why) = failing_reply why

@@ -9,17 +9,17 @@ use Rattle.rr_text.specs.declared.bytes.TheConstants.{BACKSLASH, COMMA, LINE_FEE
 abbrev pub double_quote : ℕ
 double_quote = 34
 
--- a byte inside quotes: a quote and a backslash behind a backslash, those below a space as \u00XX
+-- a byte inside quotes: a quote and a backslash after a backslash, those below a space as \u00XX
 abbrev pub escaped : ℕ → List ℕ
 escaped byte =
     if byte == double_quote || byte == BACKSLASH then BACKSLASH ∷ byte ∷ []
     else (if nat_lt byte 32 then codes "\\u00" ++ digit_char (byte / 16) ∷ digit_char (byte % 16) ∷ [] else byte ∷ [])
 
--- bytes as a text in quotes, with U+FFFD for what is no UTF-8 in them
+-- bytes as a text in quotes, with U+FFFD for what isn't UTF-8 in them
 abbrev pub quoted : List ℕ → List ℕ
 quoted bytes = double_quote ∷ (flat_map escaped (utf8_lossy bytes) ++ double_quote ∷ [])
 
--- what stands before the last comma, and what behind it; nothing and all, where there is none
+-- what is before the last comma, and what is after it; nothing and all, if there is none
 abbrev pub cut_last : List ℕ → List ℕ × List ℕ
 cut_last [] = ([], [])
 cut_last (byte ∷ text) =
@@ -34,13 +34,13 @@ row_of line = ((cut_last (cut_last line).0).1, (cut_last line).1)
 abbrev pub value_of : List ℕ → List ℕ
 value_of value = if bytes_eq value (codes "U") then codes "null" else value
 
--- the row of a record behind a comma; there is no record behind the last line feed
+-- the row of a record, after a comma; there is no record after the last line feed
 abbrev pub row_behind : List ℕ → List ℕ
 row_behind [] = []
 row_behind (byte ∷ line) =
     codes ",[" ++ (row_of (byte ∷ line)).0 ++ COMMA ∷ value_of (row_of (byte ∷ line)).1 ++ codes "]"
 
--- a row for each record, a comma between two
+-- a row for each record, separated by commas
 abbrev pub rows_of : List ℕ → List ℕ
 rows_of records = drop 1 (flat_map row_behind (slice_split (λ byte. byte == LINE_FEED) records))
 

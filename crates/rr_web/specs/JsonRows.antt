@@ -1,4 +1,4 @@
--- What the records of a fetch are as rows of JSON, by the rows themselves.
+-- The records of a fetch as rows of JSON, by the rows themselves.
 use Rattle.std.specs.Prelude.{◌≡◌, ℕ, ℤ, FitsSigned, List, [], ◌∷◌, ◌++◌, map, codes, Option, None, Some, IfSome}
 use Rattle.std.specs.Fmt.{signed_decimal}
 use Rattle.std.specs.Int.{w64}
@@ -17,7 +17,7 @@ value_json (Some value) = signed_decimal value
 abbrev pub row_json : ℤ × Option ℤ → List ℕ
 row_json row = codes "[" ++ signed_decimal row.0 ++ COMMA ∷ value_json row.1 ++ codes "]"
 
--- texts with a comma between two
+-- texts separated by commas
 abbrev pub with_commas : List (List ℕ) → List ℕ
 with_commas [] = []
 with_commas (text ∷ []) = text
@@ -27,7 +27,7 @@ with_commas (text ∷ next ∷ texts) = text ++ COMMA ∷ with_commas (next ∷ 
 abbrev pub IsRow : ℤ × Option ℤ → Type 0
 IsRow row = FitsSigned w64 row.0 × IfSome row.1 (FitsSigned w64)
 
--- each record of CSV is a row of JSON, in the same order; no key has a line feed
+-- each CSV record is a row of JSON, in the same order, if the key has no line feed
 abbrev pub RecordsAreRows : Type 0
 RecordsAreRows = (key : List ℕ) (rows : List (ℤ × Option ℤ)) → HasNoLineFeed key → AllByRecursion IsRow rows
     → rows_of (flat_map (record_text key) rows) ≡ with_commas (map row_json rows)

@@ -13,25 +13,25 @@ use Rattle.rr_web.specs.Query.{parameter_of}
 use Rattle.rr_web.specs.Reply.{ReplyView, reply_of}
 use Rattle.rr_web.specs.Series.{IsNoKey, begins_with, count_fault_name, count_in, is_past, line_of, prefix_of}
 
--- the next keys behind one, by what a reader has seen
+-- the next keys after one, by what a reader has seen
 abbrev pub piece_of : ReaderState → Option (List ℕ) → List (List ℕ)
 piece_of reader after = keys_after after PIECE (entries (cells_seen reader))
 
--- keys that a reader gives piece by piece from behind one on, up to where it stands then with the last of them: each
--- piece is of no less than it had seen before
+-- keys that a reader gives after one, piece by piece, up to where it then stands, with the last of them: each piece is
+-- of no less than it had seen before
 pub data Gives : ReaderState → Option (List ℕ) → List (List ℕ) → ReaderState → Option (List ℕ) → Type 0 where
   begun : (old : ReaderState) (first : Option (List ℕ)) → Gives old first [] old first
   goes_on : (old now next : ReaderState) (first after : Option (List ℕ)) (keys before : List (List ℕ)) (last : List ℕ)
       → Gives old first keys now after → HasSeenMore now next → piece_of next after ≡ before ++ last ∷ []
       → Gives old first (keys ++ (before ++ last ∷ [])) next (Some last)
 
--- of these keys as many begin with a prefix as are wanted, or no other key follows, or none that begins with it
+-- as many of these keys as are wanted begin with a prefix, or no other key follows, or none that begins with it
 abbrev pub IsWhole : List ℕ → ℕ → List (List ℕ) → ReaderState → Option (List ℕ) → Type 0
 IsWhole prefix count keys reader after =
     (count ≤ length (filter (begins_with prefix) keys))
     ⊎ ((piece_of reader after ≡ []) ⊎ ((last : List ℕ) × (after ≡ Some last) × (is_past prefix last ≡ true)))
 
--- the lines of the first keys behind one that begin with a prefix, looked for piece by piece
+-- the lines of the first keys after one that begin with a prefix, looked for piece by piece
 pub record ListsPrefix (prefix : List ℕ) (first : Option (List ℕ)) (count : ℕ) (old new : ReaderState) (text : List ℕ) : Type 0 where
   pub keys : List (List ℕ)
   pub now : ReaderState
@@ -41,12 +41,12 @@ pub record ListsPrefix (prefix : List ℕ) (first : Option (List ℕ)) (count : 
   pub whole : IsWhole prefix count keys new after
   pub lines : text ≡ flat_map line_of (take count (filter (begins_with prefix) keys))
 
--- the lines of the first keys behind one that begin with a prefix; every key begins with the empty one
+-- the lines of the first keys after one that begin with a prefix; every key begins with the empty one
 abbrev pub IsListing : List ℕ → Option (List ℕ) → ℕ → ReaderState → ReaderState → List ℕ → Type 0
 IsListing [] after count old new text = text ≡ flat_map line_of (keys_after after count (entries (cells_seen new)))
 IsListing (byte ∷ prefix) after count old new text = ListsPrefix (byte ∷ prefix) after count old new text
 
--- the reply of the keys behind one
+-- the reply with the keys after one
 pub record IsKeysReply (query : List ℕ) (after : Option (List ℕ)) (count : ℕ) (old new : ReaderState) (reply : ReplyView) : Type 0 where
   pub status_is : reply.status ≡ status.Ok
   pub kind_is : reply.kind ≡ Plain
@@ -55,7 +55,7 @@ pub record IsKeysReply (query : List ℕ) (after : Option (List ℕ)) (count : �
 abbrev pub IsRefused : List ℕ → ReplyView → Type 0
 IsRefused name reply = reply ≡ reply_of status.BadRequest Plain (refusal_text name)
 
--- the same, if what is named as the key is one
+-- the same; or a refusal, if what is named as the key isn't one
 abbrev pub IsReplyBehind : List ℕ → Option (List ℕ) → ℕ → ReaderState → ReaderState → ReplyView → Type 0
 IsReplyBehind query after count old new reply =
     IsKeysReply query after count old new reply ⊎ (IsNoKey after × IsRefused (codes "BadKey") reply)

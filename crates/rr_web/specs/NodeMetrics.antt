@@ -15,7 +15,7 @@ use Rattle.rr_web.specs.Family.{SampleView, family_text, family_view}
 use Rattle.rr_web.specs.Numbers.{Numbers, family_of, numbers_in}
 use Rattle.rr_web.specs.PeerMetrics.{peer_families}
 
--- the rows of an archive whose steps have so many seconds
+-- the rows of an archive, with steps of this many seconds
 abbrev pub rows_of : ℕ → ArchiveSpec → ArchiveRows
 rows_of step archive = record { seconds = step * archive.steps; rows = archive.rows }
 
@@ -27,7 +27,7 @@ archive_rows s = map (rows_of s.step) s.archives
 abbrev pub single : Amount → List SampleView
 single amount = record { labels = []; amount = amount } ∷ []
 
--- a sample of what there may be none of
+-- a sample of what may be absent
 abbrev pub samples_of : Option Amount → List SampleView
 samples_of None = []
 samples_of (Some amount) = single amount
@@ -42,7 +42,7 @@ gauge name amount = family_of Gauge name (single amount)
 abbrev pub counter : List ℕ → Amount → Numbers
 counter name amount = family_of Counter name (single amount)
 
--- what may not be there yet
+-- a gauge of what may not be there yet
 abbrev pub optional : List ℕ → Option Amount → Numbers
 optional name amount = family_of Gauge name (samples_of amount)
 
@@ -100,7 +100,7 @@ checkpoint_families m =
     optional (codes "rr_checkpoint_bytes") (option_map Whole m.checkpoint_bytes)
     ∷ optional (codes "rr_checkpoint_age_seconds") (option_map Thousandths m.checkpoint_age) ∷ []
 
--- what the families of a node say beside their help
+-- what the families of a node say besides their help
 abbrev pub metrics_of : NodeMetrics → List Numbers
 metrics_of m =
     about_families m ++ store_families m ++ connection_families m ++ line_families m ++ journal_families m
@@ -109,7 +109,7 @@ metrics_of m =
 abbrev pub families_text : List Family → List ℕ
 families_text families = flat_map (λ f. family_text (family_view f)) families
 
--- a text is that of families, which say this of a node
+-- a text is that of families that say this of a node
 pub record IsTextOf (m : NodeMetrics) (text : List ℕ) : Type 0 where
   pub families : List Family
   pub numbers : map numbers_in families ≡ metrics_of m

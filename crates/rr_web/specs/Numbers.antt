@@ -1,10 +1,10 @@
--- What families say beside their help.
+-- What families say besides their help.
 use Rattle.std.specs.Prelude.{ℕ, List, map}
 use Rattle.rr_web.specs.declared.family.Family.{Family}
 use Rattle.rr_web.specs.declared.family.FamilyKind.{FamilyKind}
 use Rattle.rr_web.specs.Family.{SampleView, sample_view}
 
--- what a family says beside its help
+-- what a family says besides its help
 pub record Numbers : Type 0 where
   pub kind : FamilyKind
   pub name : List ℕ

@@ -1,4 +1,4 @@
--- What a peer asks for of a journal or of a checkpoint, and what it is answered.
+-- What a peer asks for in a journal or a checkpoint, and how it is answered.
 use Rattle.std.specs.Prelude.{ℕ, false, List, [], ◌∷◌, ◌++◌, codes, decimal, Option, None, Some, option_map}
 use Rattle.rr_connection.specs.Answer.{ReplyView as ResponseView}
 use Rattle.rr_text.specs.Text.{number_at}
@@ -26,7 +26,7 @@ query_view q = record {
   decimals = option_map (λ text. text.items) q.decimals;
 }
 
--- a number that may be missing, or nothing where the text is none
+-- a number that may be absent, or nothing if the text isn't one
 abbrev pub number_or_none : Option ℕ → Option (Option ℕ)
 number_or_none None = None
 number_or_none (Some number) = Some (Some number)

@@ -1,4 +1,4 @@
--- What is answered to a request.
+-- How a request is answered.
 use Rattle.std.specs.Prelude.{◌≡◌, ℕ, Bool, true, false, ◌==◌, List, [], ◌∷◌, ◌++◌, codes, Option, None, Some, option_map, if◌then◌else◌}
 use Rattle.std.specs.Borrow.{Bor}
 use Rattle.std.specs.List.{flat_map}
@@ -40,8 +40,8 @@ partial_text refusals report =
 abbrev pub lent_text : Option (Bor (List ℕ)) → Option (List ℕ)
 lent_text text = option_map (λ t. t.now) text
 
--- what is answered to a write, by whether it was to be saved and isn't, by the refusals of its lines, and by their
--- report, which is missing where memory ran out
+-- the reply to a write, by whether it was to be saved and isn't, by the refusals of its lines, and by their report,
+-- which is absent if memory ran out
 abbrev pub write_reply_of : Bool → List ℕ → Option (List ℕ) → ReplyView
 write_reply_of is_unsaved refusals None =
     reply_of Failed Json (codes "{\"error\":\"the node ran out of memory\"}\n")

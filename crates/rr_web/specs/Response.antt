@@ -1,4 +1,4 @@
--- Replies as responses of HTTP (RFC 9110).
+-- Replies as HTTP responses (RFC 9110).
 use Rattle.std.specs.Prelude.{ℕ, Bool, true, false, List, [], ◌∷◌, ◌++◌, codes, if◌then◌else◌}
 use Rattle.rr_connection.specs.Answer.{ReplyView as ResponseView}
 use Rattle.rr_web.specs.declared.reply.Status.{Status}
@@ -37,7 +37,7 @@ status_fields product status.UnknownCoding = (codes "accept-encoding", codes "id
 status_fields product status.Busy = (codes "retry-after", codes "1") ∷ []
 status_fields product other = []
 
--- what a page may take from elsewhere: scripts, styles and answers of the node that it is of
+-- what a page may load: scripts, styles and answers of its own node
 abbrev pub policy : List ℕ
 policy = codes "default-src 'none'; script-src 'self'; style-src 'self'; connect-src 'self'; base-uri 'none'; form-action 'none'; frame-ancestors 'none'"
 
@@ -45,7 +45,8 @@ abbrev pub policy_fields : Kind → List (List ℕ × List ℕ)
 policy_fields kind.Html = (codes "content-security-policy", policy) ∷ []
 policy_fields other = []
 
--- the fields of a text: its kind, which a browser is not to guess, nor to keep the text
+-- the fields of a text: its kind, which a browser mustn't guess; that the text mustn't be kept; and the policy of a
+-- page
 abbrev pub text_fields : Kind → List (List ℕ × List ℕ)
 text_fields kind =
     (codes "content-type", media_type kind) ∷ (codes "x-content-type-options", codes "nosniff")
@@ -62,7 +63,7 @@ fields_of product status kind = status_fields product status ++ (if has_text sta
 abbrev pub body_of : Status → List ℕ → List ℕ
 body_of status text = if has_text status then text else []
 
--- the response of a reply, after which its connection stays
+-- the response of a reply, after which its connection stays open
 abbrev pub response_of : List ℕ → ReplyView → ResponseView
 response_of product reply = record {
   status = code_of reply.status;

@@ -32,15 +32,15 @@ line_of key = key ++ LINE_FEED ∷ []
 abbrev pub begins_with : List ℕ → List ℕ → Bool
 begins_with prefix key = starts_with nat_eq key prefix
 
--- whether a key is behind all those that begin with a prefix
+-- whether a key comes after all those that begin with a prefix
 abbrev pub is_past : List ℕ → List ℕ → Bool
 is_past prefix key = if begins_with prefix key then false else is_gt (bytes_cmp key prefix)
 
--- a text that is named is no key text
+-- a text is named that isn't a key text
 abbrev pub IsNoKey : Option (List ℕ) → Type 0
 IsNoKey None = ⊥
 IsNoKey (Some text) = ¬ IsKeyText text
 
--- the prefix that a query names; every key begins with the empty one, if it names none
+-- the prefix that a query names, or else the empty one, with which every key begins
 abbrev pub prefix_of : List ℕ → List ℕ
 prefix_of query = unwrap_or (parameter_of query (codes "prefix")) []

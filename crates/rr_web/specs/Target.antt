@@ -6,7 +6,7 @@ use Rattle.rr_text.specs.Options.{◌>>=◌}
 use Rattle.rr_text.specs.Text.{cut_at}
 use Rattle.rr_web.specs.declared.target.TheConstants.{COLON, QUESTION_MARK, SLASH}
 
--- a scheme of HTTP, which has no case
+-- a scheme of HTTP, in either case
 abbrev pub is_http : List ℕ → Bool
 is_http scheme = str_eq_ignore_ascii_case scheme (codes "http") || str_eq_ignore_ascii_case scheme (codes "https")
 
@@ -14,7 +14,7 @@ is_http scheme = str_eq_ignore_ascii_case scheme (codes "http") || str_eq_ignore
 abbrev pub behind_slashes : List ℕ × List ℕ → Option (List ℕ)
 behind_slashes (scheme, rest) = if is_http scheme then strip SLASH rest >>= strip SLASH else None
 
--- the same of a target, if it begins with these
+-- the same for a target, if it begins with these
 abbrev pub behind_scheme : List ℕ → Option (List ℕ)
 behind_scheme target = cut_at COLON target >>= behind_slashes
 
@@ -31,16 +31,16 @@ abbrev pub without_authority : List ℕ → Option (List ℕ) → List ℕ
 without_authority target None = target
 without_authority target (Some rest) = behind_authority rest
 
--- what is asked of a node: a target that is a path and a query, or such a part of an absolute one
+-- what is asked of a node: a target that is a path and a query, or these parts of an absolute one
 abbrev pub asked_at : List ℕ → List ℕ
 asked_at target = if begins SLASH target then target else without_authority target (behind_scheme target)
 
--- no path is that of the root (RFC 9110, section 4.2.3)
+-- an empty path is that of the root (RFC 9110, section 4.2.3)
 abbrev pub or_root : List ℕ → List ℕ
 or_root [] = SLASH ∷ []
 or_root (byte ∷ path) = byte ∷ path
 
--- what stands before the first question mark, and what behind it
+-- what is before the first question mark, and what is after it
 abbrev pub parts_at : List ℕ → List ℕ × List ℕ
 parts_at text = unwrap_or (cut_at QUESTION_MARK text) (text, [])
 

@@ -1,5 +1,5 @@
--- A text in quotes of JSON that is read back (RFC 8259, section 7): characters, and the escapes of a quote, a backslash
--- and codes below 256.
+-- A quoted JSON text that is read back (RFC 8259, section 7): characters, and the escapes of a quote, a backslash and
+-- codes below 256.
 use Rattle.std.specs.Prelude.{◌≡◌, ℕ, zero, suc, ◌+◌, ◌-◌, ◌*◌, nat_lt, ◌||◌, ◌==◌, List, [], ◌∷◌, ◌++◌, codes, length, take, drop, Option, None, Some, unwrap_or, if◌then◌else◌}
 use Rattle.std.specs.Option.{option_map}
 use Rattle.std.specs.Str.{bytes_eq}
@@ -7,17 +7,17 @@ use Rattle.std.specs.Str.Lossy.{utf8_lossy}
 use Rattle.rr_text.specs.declared.bytes.TheConstants.{BACKSLASH}
 use Rattle.rr_web.specs.Json.{double_quote, quoted}
 
--- the value of a digit in hexadecimal; letters are those of the lower case
+-- the value of a hexadecimal digit; letters are lower-case
 abbrev pub hex_value : ℕ → ℕ
 hex_value digit = if nat_lt digit 58 then digit - 48 else digit - 87
 
--- the code of two digits, and what is behind it
+-- the code of two digits, and what follows it
 abbrev pub code_at : List ℕ → Option (ℕ × List ℕ)
 code_at [] = None
 code_at (high ∷ []) = None
 code_at (high ∷ low ∷ text) = Some (16 * hex_value high + hex_value low, text)
 
--- what is escaped behind a backslash: the byte there, or the code behind `u00`
+-- what is escaped after a backslash: the byte there, or the code after `u00`
 abbrev pub escape_at : List ℕ → Option (ℕ × List ℕ)
 escape_at [] = None
 escape_at (byte ∷ text) =
@@ -30,18 +30,18 @@ byte_at [] = None
 byte_at (byte ∷ text) =
     if byte == double_quote then None else (if byte == BACKSLASH then escape_at text else Some (byte, text))
 
--- at most `most` bytes of it, and what is behind them
+-- at most `most` bytes of it, and what follows them
 abbrev pub unquoted_within : ℕ → List ℕ → List ℕ × List ℕ
 unquoted_within zero text = ([], text)
 unquoted_within (suc most) text =
     unwrap_or (option_map (λ x. (x.0 ∷ (unquoted_within most x.1).0, (unquoted_within most x.1).1)) (byte_at text))
     ([], text)
 
--- all of it, and the quote that ends it with what is behind that
+-- all of it, and the quote that ends it with what follows that
 abbrev pub unquoted : List ℕ → List ℕ × List ℕ
 unquoted text = unquoted_within (length text) text
 
--- what a text in quotes is read as behind its first quote, whatever follows it: the bytes, with U+FFFD for what is no
+-- a text in quotes is read, after its first quote and whatever follows it, as its bytes, with U+FFFD for what isn't
 -- UTF-8 in them
 abbrev pub QuotedIsRead : Type 0
 QuotedIsRead =
