@@ -1,14 +1,16 @@
 #!/usr/bin/env python3
 """Samples a second into a node over HTTP, from 16 senders at once, beside 4 readers, and into other servers.
 
-    bench/node_http.py PROGRAM [--requests N]
+    bench/node_http.py PROGRAM [--requests N] [--runs N] [--check]
 
 PROGRAM is the built program, crates/rr_tool/out/rr_tool. Each of 16 senders posts N requests, 20 if not given, of 1,000
 lines each, over a connection that stays, and posts again what was answered 503: to a node that does nothing else, and to
 one from which 4 readers fetch 100 rows again and again. Then as many lines are sent over one line connection, and the same
 requests to VictoriaMetrics and InfluxDB, if they are installed. A node of `rr node` syncs what it takes to its journal, in
 the folder of TMPDIR, before it answers; VictoriaMetrics does not. Prints samples a second, the server's processor time for
-each, with that of the fetches, and how many answers were 503. Run it on an idle machine.
+each, with that of the fetches, and how many answers were 503, as often as --runs says, each time with new servers. Run it
+on an idle machine. With --check it ends with status 1 where the node takes less than 1.5 times what InfluxDB takes of the
+same requests, in the median of all runs.
 """
 
 import argparse
@@ -19,11 +21,14 @@ import os
 import pathlib
 import shutil
 import socket
+import statistics
 import subprocess
+import sys
 import tempfile
 import threading
 import time
 
+from goals import Goals
 from peers import InfluxDb, VictoriaMetrics, Work
 
 SENDERS, READERS, LINES = 16, 4, 1000
@@ -103,11 +108,12 @@ def work_of(process):
 
 
 def measured(process, what, samples, run):
+    """What a run gives, and how many samples a second it sent to a process."""
     work, began = work_of(process), time.monotonic()
     result = run()
     seconds, work = time.monotonic() - began, work_of(process) - work
-    print(f"{what}: {samples / seconds:,.0f} samples a second, {work / samples * 1e6:.2f} us of processor time each")
-    return result
+    print(f"{what}: {samples / seconds:,.0f} samples a second, {work / samples * 1e6:.2f} us of processor time each", flush=True)
+    return result, samples / seconds
 
 
 def fetch_until(port, ended, counts):
@@ -157,42 +163,71 @@ def node(program):
             process.wait()
 
 
-def peer(kind, path, bodies, samples):
-    """The same requests to another server, if it is installed."""
-    if not shutil.which(kind.needs):
-        print(f"{kind.name} isn't installed")
-        return
-    with tempfile.TemporaryDirectory() as folder:
-        server = kind(pathlib.Path(folder), Work(1, 1), None)
-        process = subprocess.Popen(server.words, stdout=subprocess.DEVNULL, stderr=subprocess.DEVNULL)
-        try:
-            server.begin()
-            measured(process, kind.name, samples, lambda: send_all(server.port, bodies, path))
-        finally:
-            process.kill()
-            process.wait()
+class Requests:
+    """What all senders post."""
+
+    def __init__(self, requests):
+        self.bodies = [[lines_of(sender, i) for i in range(requests)] for sender in range(SENDERS)]
+        self.samples = SENDERS * requests * LINES
+
+    def to_node(self, program):
+        """How many samples a second a node takes that does nothing else."""
+        with node(program) as (process, web, _):
+            what = f"{SENDERS} senders over HTTP"
+            behind, rate = measured(process, what, self.samples, lambda: send_all(web, self.bodies))
+        print(f"answers that the node is behind: {behind}")
+        return rate
+
+    def beside_readers(self, program):
+        with node(program) as (process, web, _):
+            what, run = f"the same beside {READERS} readers", lambda: send_all(web, self.bodies)
+            (behind, count), _ = measured(process, what, self.samples, lambda: beside_readers(web, run))
+        print(f"fetches meanwhile: {count}; answers that the node is behind: {behind}")
+
+    def as_lines(self, program):
+        flat = [body for own in self.bodies for body in own]
+        with node(program) as (process, _, lines):
+            measured(process, "one line connection", self.samples, lambda: send_lines(lines, flat))
+
+    def to_peer(self, kind, path):
+        """How many samples a second another server takes, if it is installed."""
+        if not shutil.which(kind.needs):
+            print(f"{kind.name} isn't installed")
+            return None
+        with tempfile.TemporaryDirectory() as folder:
+            server = kind(pathlib.Path(folder), Work(1, 1), None)
+            process = subprocess.Popen(server.words, stdout=subprocess.DEVNULL, stderr=subprocess.DEVNULL)
+            try:
+                server.begin()
+                return measured(process, kind.name, self.samples, lambda: send_all(server.port, self.bodies, path))[1]
+            finally:
+                process.kill()
+                process.wait()
 
 
 def main():
     parser = argparse.ArgumentParser()
     parser.add_argument("program")
     parser.add_argument("--requests", type=int, default=20)
+    parser.add_argument("--runs", type=int, default=1)
+    parser.add_argument("--check", action="store_true", help="end with status 1 where it is less than 1.5 times InfluxDB's")
     asked = parser.parse_args()
-    bodies = [[lines_of(sender, i) for i in range(asked.requests)] for sender in range(SENDERS)]
-    samples = SENDERS * asked.requests * LINES
-    with node(asked.program) as (process, web, _):
-        behind = measured(process, f"{SENDERS} senders over HTTP", samples, lambda: send_all(web, bodies))
-        print(f"answers that the node is behind: {behind}")
-    with node(asked.program) as (process, web, _):
-        what = f"the same beside {READERS} readers"
-        behind, count = measured(process, what, samples, lambda: beside_readers(web, lambda: send_all(web, bodies)))
-        print(f"fetches meanwhile: {count}; answers that the node is behind: {behind}")
-    with node(asked.program) as (process, _, lines):
-        flat = [body for own in bodies for body in own]
-        measured(process, "one line connection", samples, lambda: send_lines(lines, flat))
-    peer(VictoriaMetrics, "/write?precision=ns", bodies, samples)
-    peer(InfluxDb, "/write?db=m&precision=ns", bodies, samples)
+    requests = Requests(asked.requests)
+    ours, theirs = [], []
+    for _ in range(asked.runs):
+        ours.append(requests.to_node(asked.program))
+        requests.beside_readers(asked.program)
+        requests.as_lines(asked.program)
+        requests.to_peer(VictoriaMetrics, "/write?precision=ns")
+        theirs.append(requests.to_peer(InfluxDb, "/write?db=m&precision=ns"))
+    if not asked.check:
+        return 0
+    if None in theirs:
+        sys.exit("node_http.py: there is no InfluxDB to compare with")
+    goals = Goals()
+    goals.least("samples a second, of InfluxDB's", statistics.median(ours) / statistics.median(theirs), 1.5)
+    return goals.status()
 
 
 if __name__ == "__main__":
-    main()
+    sys.exit(main())

@@ -22,7 +22,7 @@ import sys
 import tempfile
 import time
 
-from http_node import IDLE, Node, check, fail, read_all, read_answer
+from http_node import IDLE, Node, check, fail, read_all, read_answer, within
 
 SENDERS, LINES_OF_ONE = 16, 1000
 
@@ -323,15 +323,6 @@ def limit_files(node, most):
     resource.prlimit(node.process.pid, resource.RLIMIT_FSIZE, (most, resource.RLIM_INFINITY))
 
 
-def is_saved_again(node):
-    """Waits until a node says that it can acknowledge what it is sent."""
-    for _ in range(50):
-        if node.curl("/health")[0] == 200:
-            return True
-        time.sleep(0.1)
-    return False
-
-
 def failing_journal(program, folder, lines):
     """The journal can't grow for a while: so many lines are taken and answered as not saved, and are saved once they can be."""
     node = Node(program, folder)
@@ -345,7 +336,7 @@ def failing_journal(program, folder, lines):
         status, text = node.curl("/health")
         check("/health", (status, json.loads(text)["status"]), (503, "fail"))
         limit_files(node, resource.RLIM_INFINITY)
-        check("it can be saved again", is_saved_again(node), True)
+        check("it can be saved again", within(5, lambda: node.curl("/health")[0] == 200), True)
         check("the next write", node.curl("/write", body=b"d v=1i 0\n")[0], 204)
         check("appends that failed", counts_of(node)["rr_journal_failed_appends_total"] > 0, True)
         node.kill()

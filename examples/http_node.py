@@ -1,4 +1,4 @@
-"""A node that is asked over HTTP, for http_api.py, influx_client.py, mutated.py and page.py."""
+"""A node that is asked over HTTP, for full_disk.py, http_api.py, influx_client.py, mutated.py and page.py."""
 
 import pathlib
 import socket
@@ -32,6 +32,16 @@ def check(what, got, want):
     if got != want:
         fail(f"{what}: {got!r:.300} in place of {want!r:.300}")
     print(f"{what}: as expected")
+
+
+def within(seconds, is_so):
+    """Waits until something is so, and answers whether it was in time."""
+    end = time.monotonic() + seconds
+    while not is_so():
+        if time.monotonic() > end:
+            return False
+        time.sleep(0.05)
+    return True
 
 
 def free_ports(count):
@@ -81,15 +91,20 @@ class Node:
 
     def start(self):
         self.process = subprocess.Popen(self.words)
-        for _ in range(200):
-            try:
-                self.connect().close()
-                return
-            except ConnectionRefusedError:
-                if self.process.poll() is not None:
-                    fail(f"the node ended with status {self.process.returncode}")
-                time.sleep(0.05)
-        fail("the node doesn't listen")
+        self.await_start()
+
+    def await_start(self):
+        if not within(10, self.listens):
+            fail("the node doesn't listen")
+
+    def listens(self):
+        if self.process.poll() is not None:
+            fail(f"the node ended with status {self.process.returncode}")
+        try:
+            self.connect().close()
+            return True
+        except ConnectionRefusedError:
+            return False
 
     def kill(self):
         self.process.kill()
