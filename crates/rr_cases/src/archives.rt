@@ -21,7 +21,7 @@ const ARCHIVES: [ArchiveSpec; 2] = [
     },
 ];
 
-/// Archives of which the last two have more steps than a mask of version 1 has bits.
+/// Archives, the last two of which have more steps than a mask of version 1 has bits.
 const WIDE: [ArchiveSpec; 3] = [
     ArchiveSpec {
         steps: 1,

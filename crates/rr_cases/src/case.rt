@@ -24,7 +24,7 @@ fn difference<'a>(expected: &'a [u8], got: &'a [u8]) -> Option<(usize, &'a [u8],
     None
 }
 
-/// Prints where what a file gives over a kind of archive first differs from what is expected of it.
+/// Prints where a file's output over a kind of archive first differs from what is expected of it.
 fn report(
     rt: &(impl AllocGlobal + Print),
     file: &str,
@@ -45,7 +45,7 @@ fn report(
     println!(rt; "{file} over {archive}: expected in line {number} '{wanted}', got '{found}'")
 }
 
-/// A case: what its input is, its bytes, and the output that is expected of them.
+/// A case: what its input is, its bytes, and the output expected of them.
 #[derive(Drop)]
 pub(crate) struct Case {
     pub(crate) kind: Kind,
@@ -53,7 +53,7 @@ pub(crate) struct Case {
     pub(crate) expected: Vec<u8>,
 }
 
-/// What is expected of the input of a file, which is named without its ending.
+/// The output expected of a file of input, which is named without its ending.
 fn expected_of(rt: &(impl Files + AllocGlobal), stem: &str) -> Result<Vec<u8>> {
     let file = format!(in rt.alloc(); "{stem}{EXPECTED}")?;
     fs::read(rt, file.as_str()).context("no expected output")
@@ -72,8 +72,8 @@ fn case_of(rt: &(impl Files + AllocGlobal), file: &str) -> Result<Case> {
     })
 }
 
-/// What a case gives over a kind of archive that isn't expected, if there is something. Counts the
-/// growths that are refused.
+/// The output of a case over a kind of archive, if it isn't the expected one. Counts the growths
+/// that are refused.
 fn unexpected<A: Cells, R: AllocGlobal + Wait>(
     rt: &R,
     case: &Case,
@@ -86,7 +86,7 @@ fn unexpected<A: Cells, R: AllocGlobal + Wait>(
     Ok((got.as_slice() != case.expected.as_slice()).then_some(got))
 }
 
-/// Whether a case holds over a kind of archive; where it doesn't, the first difference is printed.
+/// Whether a case holds over a kind of archive; if it doesn't, the first difference is printed.
 fn holds_over<A: Cells, R: AllocGlobal + Print + Wait>(
     rt: &R,
     case: &Case,

@@ -16,7 +16,7 @@ const THREE_ROWS: ArchiveSpec = ArchiveSpec {
     den: 1,
 };
 
-/// The schema that the cells and pages are of: three rows a minute.
+/// The schema of the cells and pages: three one-minute rows.
 pub(crate) fn minutes(alloc: Global) -> Result<Schema, SchemaFault> {
     Schema::new(alloc, 60, &[THREE_ROWS])
 }
@@ -57,7 +57,7 @@ fn push_answer(
     output.push('\n')
 }
 
-/// The fields of a cell that was read from these bytes, and whether it is written as them.
+/// Adds the fields of a cell that was read from these bytes, and whether it is written as the same.
 fn push_read(
     alloc: Global,
     output: &mut String,
@@ -74,7 +74,7 @@ fn push_read(
     )
 }
 
-/// The word for bytes that are the same as others or aren't.
+/// The word for bytes that are the same as others, or aren't.
 pub(crate) fn sameness(is_same: bool) -> &'static str {
     if is_same { "the same" } else { "other" }
 }
@@ -90,14 +90,14 @@ pub(crate) fn as_ref(cell: &Cell) -> CellRef<'_> {
     }
 }
 
-/// The key, the archive, the slot and the origin of a cell.
+/// Adds the key, the archive, the slot and the origin of a cell.
 fn push_name(output: &mut String, cell: CellRef<'_>) -> Result<(), AllocError> {
     let key = str::from_utf8(cell.key.text()).unwrap_or("");
     let (archive, slot, origin) = (cell.archive, cell.slot, cell.origin.get());
     write!(output, "{key} {archive} {slot} {origin} ")
 }
 
-/// The fields of a cell in their order.
+/// Adds the fields of a cell in order.
 pub(crate) fn push_fields(output: &mut String, cell: &Cell) -> Result<(), AllocError> {
     push_name(output, as_ref(cell))?;
     let summary = cell.contribution;

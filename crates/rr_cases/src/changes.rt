@@ -1,6 +1,6 @@
 //! Bytes in hexadecimal, and changes of them. The first line of a text has the bytes; each further
-//! line an offset from 0, a space, and the bytes that stand there instead, or `end` where the bytes
-//! end there. A line before these may set what the bytes are read as.
+//! line has an offset from 0, a space, and the bytes that stand there instead, or `end` if the
+//! bytes end there. A line before these may set what the bytes are read as.
 
 use anyhow::{Context, Result};
 use std::alloc::Global;

@@ -1,5 +1,5 @@
-//! Configurations of a node as TOML texts, and what is told of them. A line `---` stands between
-//! two of them.
+//! Configurations of a node as TOML texts, with a line `---` between two, and what is told about
+//! them.
 
 use crate::documents::{push_schema, texts};
 use crate::printed::push_line;
@@ -18,7 +18,7 @@ pub(crate) fn answers(alloc: Global, input: &[u8]) -> Result<Vec<u8>, AllocError
     Ok(output.into_bytes())
 }
 
-/// For each text what an operator is told of it, a line each, and then a line `---`.
+/// For each text what an operator is told about it, line by line, and then a line `---`.
 pub(crate) fn all_remarks(alloc: Global, input: &[u8]) -> Result<Vec<u8>, AllocError> {
     let mut output = String::new(alloc);
     for text in &texts(alloc, input)? {
@@ -62,7 +62,7 @@ pub(crate) fn push_setting<D: Display + Drop>(
     write!(output, "; {name} {value}")
 }
 
-/// Adds a setting that may be missing.
+/// Adds a setting that may be absent.
 pub(crate) fn push_some<D: Display + Drop>(
     output: &mut String,
     name: &str,
@@ -74,7 +74,7 @@ pub(crate) fn push_some<D: Display + Drop>(
     }
 }
 
-/// Adds a word if it is said.
+/// Adds a word if it is given.
 pub(crate) fn push_given(
     output: &mut String,
     word: &str,
@@ -87,7 +87,7 @@ pub(crate) fn push_given(
     }
 }
 
-/// Adds what a configuration says of rounds by time, and of what a node says of them.
+/// Adds what a configuration says about rounds by time, and about what a node tells of them.
 fn push_rounds(output: &mut String, config: &Config) -> Result<(), AllocError> {
     push_some(output, "every", config.every)?;
     push_given(output, "; quiet", config.quiet)?;
@@ -97,7 +97,7 @@ fn push_rounds(output: &mut String, config: &Config) -> Result<(), AllocError> {
     }
 }
 
-/// Adds what a configuration says of times.
+/// Adds what a configuration says about times.
 fn push_times(output: &mut String, config: &Config) -> Result<(), AllocError> {
     push_some(output, "lead", config.lead)?;
     push_setting(output, "precision", name_of(config.precision))?;

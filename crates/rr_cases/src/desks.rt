@@ -1,26 +1,26 @@
-//! Calls of a desk of origin 2 with three rows of a minute and one reader, over streams in memory.
-//! A line `---` stands between two calls.
+//! Calls of a desk of origin 2 with three one-minute rows and one reader, over streams in memory,
+//! with a line `---` between two calls.
 //!
 //! The first line of a call has its words, and what follows is its input, in which lines and texts
-//! may be several times ([`crate::repeats`]). The words after the first limit the streams and the
+//! may be repeated ([`crate::repeats`]). The words after the first limit the streams and the
 //! memory, and set the clock ([`crate::settings`]).
 //!
 //! | Call | Answer |
 //! |---|---|
-//! | `lines` | what is written as the keeper is served the input |
-//! | `fetches` | what is written as the reader serves the input |
-//! | `session` | the same, the bytes of both in hexadecimal |
-//! | `pull` | what is written as the keeper pulls from the input, the bytes of both in hexadecimal |
-//! | `put` | nothing: the keeper puts a value of `m v`, whose time and the value are the input |
-//! | `join` | nothing: it joins a cell, with the words of a call of a replica as its input ([`crate::replicas`]) |
+//! | `lines` | what is written while the keeper is served the input |
+//! | `fetches` | what is written while the reader serves the input |
+//! | `session` | the same, both in hexadecimal |
+//! | `pull` | what is written while the keeper pulls from the input, both in hexadecimal |
+//! | `put` | nothing: the keeper puts a sample of `m v`, whose time and value are the input |
+//! | `join` | nothing: it joins a cell; the input is as for a `join` of [`crate::replicas`] |
 //! | `publish` | nothing |
 //! | `save` | what is written of a snapshot of the keeper, in hexadecimal |
-//! | `names` | how many cells the keeper has |
+//! | `names` | how many cells the keeper has, up to 256 |
 //! | `cells` | a line for each cell that the reader gives to a side that has none |
-//! | `keys` | a line for each key that the reader sees; the input is `COUNT KEY`, as of a call of a replica |
+//! | `keys` | a line for each key the reader sees; the input is `COUNT KEY`, as for a replica |
 //! | `past` | how many samples the keeper put that no archive kept |
 //!
-//! An answer ends with a line that says how the call did.
+//! An answer ends with a line that says how the call ended.
 
 use crate::cells::as_ref;
 use crate::documents::texts;
@@ -70,7 +70,7 @@ fn answers_at<A: Cells, T: Wait>(
     Ok(output)
 }
 
-/// Adds what a call wrote, and a line with how it did.
+/// Adds what a call wrote, and a line with how it ended.
 fn push_answer(output: &mut Vec<u8>, (ending, written): &Answer) -> Result<(), AllocError> {
     output.extend_from_slice(written)?;
     output.extend_from_slice(b"== ")?;
@@ -78,7 +78,7 @@ fn push_answer(output: &mut Vec<u8>, (ending, written): &Answer) -> Result<(), A
     Ok(output.push(b'\n')?)
 }
 
-/// How a call did, and what it wrote.
+/// How a call ended, and what it wrote.
 type Answer = (String, Vec<u8>);
 
 /// Makes a call.
@@ -105,7 +105,7 @@ fn answer<A: Cells, T: Wait>(
     }
 }
 
-/// Makes one of the calls that the keeper answers alone.
+/// Makes one of the calls that the keeper answers by itself.
 fn answer_of_keeper<A: Cells>(
     alloc: Global,
     keeper: &mut Keeper<A>,
@@ -137,7 +137,7 @@ fn first_line(text: &[u8]) -> Result<(&str, &[u8])> {
     Ok((str::from_utf8(line)?, rest.get(1..).unwrap_or(b"")))
 }
 
-/// How a call did that writes nothing, as a text.
+/// How a call that writes nothing ended, as a text.
 fn ending(alloc: Global, done: Result<(), AllocError>) -> Result<Answer> {
     let word = match done {
         Ok(()) => "done",
@@ -220,7 +220,7 @@ fn fetches<A: Cells>(
     Ok((text_of(alloc, ending)?, written(sink)))
 }
 
-/// The bytes of a line in hexadecimal.
+/// The bytes that a line has in hexadecimal.
 fn bytes_of(alloc: Global, input: &[u8]) -> Result<Vec<u8>> {
     Ok(hex::decode(alloc, str::from_utf8(input)?.trim_end())?)
 }

@@ -1,4 +1,4 @@
-//! Schemas as TOML texts. A line `---` stands between two of them.
+//! Schemas as TOML texts, with a line `---` between two.
 
 use crate::printed::push_line;
 use rr_base::{FromToml, Schema};

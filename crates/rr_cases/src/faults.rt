@@ -1,4 +1,4 @@
-//! The names of faults and their sentences. A file has the word of some faults.
+//! The names of faults and their sentences. A file has the word for some faults.
 
 use anyhow::{Result, bail};
 use rr_base::stream::ReadFault;
@@ -15,7 +15,7 @@ use rr_replica::{JoinFault, PutFault, WriteFault};
 use std::alloc::{AllocError, Global};
 use std::fmt::Display;
 
-/// For each of the faults a line, its name and its sentence.
+/// For each of the faults a line with its name and its sentence.
 pub(crate) fn answers(alloc: Global, input: &[u8]) -> Result<Vec<u8>> {
     let mut output = String::new(alloc);
     match str::from_utf8(input)? {

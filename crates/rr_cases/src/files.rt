@@ -6,7 +6,7 @@ use std::{fs, io};
 /// How the name of a file of expected output ends.
 pub(crate) const EXPECTED: &str = ".out";
 
-/// The folder of all cases, where it isn't the folder that the program runs in.
+/// The folder of all cases, if the program doesn't run in it.
 const DATA: &str = "data";
 
 /// The paths in a folder, in order, without the files of expected output.

@@ -1,13 +1,13 @@
 //! Cases in which each growth of a call is refused in turn.
 //!
 //! Their input has `{m}` for the number of growths before the one that is refused, and is run with
-//! 0, 1, 2 and so on there, until none is refused. How many growths a call makes, and what is done
-//! before each, is its own affair. So what is expected are the answers that may come, in their
-//! order, with a line `---` between two: those that come have to be some of them, in that order.
-//! The last is that of a run in which nothing is refused. It has to come at the end, and may come
-//! before, where a call passes over what was refused.
+//! 0, 1, 2 and so on there, until none is refused. How many growths a call makes, and what it does
+//! before each, is its own affair. So the expected output has the answers that may come, in order,
+//! with a line `---` between two: those that come must be some of them, in that order. The last is
+//! that of a run in which nothing is refused. It must come at the end, and may come earlier, if a
+//! call does without what was refused.
 //!
-//! Where nobody refuses growths ([`rr_fakes::refusing`]), the last comes at once.
+//! If nothing refuses growths ([`rr_fakes::refusing`]), the last comes at once.
 
 use crate::case::Case;
 use crate::documents::texts;
@@ -21,14 +21,14 @@ use std::sync::Wait;
 /// What stands in an input for the number of growths before the one that is refused.
 const MARK: &str = "{m}";
 
-/// Has the growth after `growths` of them refused, from here to [`end`]; with `None` none is.
+/// Has the growth after `growths` others refused, from here to [`end`]; with `None` none is.
 pub(crate) fn begin(alloc: Global, growths: Option<u32>) {
     if let Some(growths) = growths {
         refuse_after(alloc, growths);
     }
 }
 
-/// Has no growth refused any more, after what [`begin`] asked for.
+/// Ends what [`begin`] asked for, so that no growth is refused any more.
 pub(crate) fn end(alloc: Global, growths: Option<u32>) {
     if growths.is_some() {
         refuse_none(alloc);
@@ -70,7 +70,7 @@ impl Expected {
         None
     }
 
-    /// Whether an answer may come after those before it, where a growth was refused.
+    /// Whether an answer may come after those before it, if a growth was refused.
     fn takes(&mut self, answer: &[u8]) -> bool {
         if self.is_last(answer) {
             return true;
@@ -85,8 +85,8 @@ impl Expected {
     }
 }
 
-/// The first answer of a case over a kind of archive that may not come, if there is one. Counts the
-/// growths that are refused.
+/// The first answer of a case over a kind of archive that isn't allowed, if there is one. Counts
+/// the growths that are refused.
 pub(crate) fn unexpected<A: Cells, T: Wait>(
     alloc: Global,
     rt: &T,

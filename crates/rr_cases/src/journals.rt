@@ -1,6 +1,6 @@
 //! A file of a journal as bytes in hexadecimal, and changes of them ([`crate::changes`]). It is of
-//! three rows a minute, and replayed under origin 65535, or where a first line is `# origin N` under
-//! that one. A line `---` stands between the answers to two variants of the bytes.
+//! three one-minute rows, and replayed under origin 65535, or, if a first line is `# origin N`,
+//! under that one. A line `---` stands between the answers to two variants of the bytes.
 
 use crate::cells::{minutes, push_fields};
 use crate::changes;
@@ -15,13 +15,13 @@ use rr_recovery::{Found, RecoveryFault, replay};
 use rr_replica::Replica;
 use std::alloc::{AllocError, Global};
 
-/// The origin of a replay that a text gives none.
+/// The origin of a replay if a text gives none.
 const OWN: u16 = 65_535;
 
-/// What is added to the kind of a record that is the first one after a sync.
+/// What is added to the kind of a record that is the first after a sync.
 const FIRST: u8 = 128;
 
-/// What is read of each variant of the bytes, why the reading stopped, and the cells that a replay
+/// What is read from each variant of the bytes, why reading stopped, and the cells that a replay
 /// makes; or the fault that refuses the header, a record, or the replay.
 pub(crate) fn answers<A: Cells>(alloc: Global, input: &[u8]) -> Result<Vec<u8>> {
     let schema = minutes(alloc)?;
@@ -62,7 +62,7 @@ fn push_file<A: Cells>(
     }
 }
 
-/// Adds a line for each record at a place, and one that says why no more follows, and where.
+/// Adds a line for each record from a place on, and one that says why no more follows, and where.
 fn push_records(
     alloc: Global,
     output: &mut String,
@@ -134,7 +134,7 @@ fn push_replayed<A: Cells>(
     }
 }
 
-/// A replica of an origin into which a file, whose header was read before, was replayed.
+/// A replica of an origin into which a file, whose header was read before, is replayed.
 fn replayed<A: Cells>(
     alloc: Global,
     bytes: &[u8],

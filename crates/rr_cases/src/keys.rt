@@ -1,4 +1,4 @@
-//! Key texts, a line each.
+//! Key texts, one a line.
 
 use rr_key::SeriesKey;
 use std::alloc::{AllocError, Global};

@@ -12,7 +12,7 @@ use std::sync::Wait;
 /// What stands in a file of input for each number in turn.
 const MARK: &str = "{n}";
 
-/// A number that no call of a stream comes to, nor a growth of a call.
+/// A number that neither the calls of a stream nor the growths of a call reach.
 pub(crate) const LAST: u32 = 60_000;
 
 /// What a file of input is.
@@ -34,11 +34,11 @@ pub(crate) enum Kind {
     NodeRemarks,
     /// The word of some faults, and their names and sentences.
     Faults,
-    /// Key texts, a line each, and which of them are.
+    /// Texts, one a line, and which of them are key texts.
     Keys,
     /// A cell in hexadecimal and changes of its bytes, and what each is read as.
     Cell,
-    /// Calls of a replica, a line each, and what they answer.
+    /// Calls of a replica, one a line, and what they answer.
     Replica,
     /// Calls of a desk over streams in memory, and what they answer.
     Desk,
@@ -49,7 +49,7 @@ pub(crate) enum Kind {
 }
 
 impl Kind {
-    /// What a file is whose name ends so.
+    /// What a file with this ending is.
     pub(crate) fn of_ending(ending: &str) -> Option<Kind> {
         match ending {
             "rr" => Some(Kind::Script),
@@ -70,10 +70,10 @@ impl Kind {
         }
     }
 
-    /// What the libraries answer to a file's bytes, with archives of a kind where it speaks of any.
-    /// Where the file has `{n}`, that is what they answer with 0, 1, 2 and so on in its place,
-    /// without answers that are like the one before, up to the one that no number changes any more.
-    /// A line `---` stands between two.
+    /// What the libraries answer to a file's bytes, with archives of a kind if it needs any. If the
+    /// file has `{n}`, these are their answers with 0, 1, 2 and so on in its place, without answers
+    /// equal to the one before, up to the one that greater numbers no longer change. A line `---`
+    /// stands between two.
     pub(crate) fn output<A: Cells, T: Wait>(
         self,
         alloc: Global,
@@ -110,7 +110,7 @@ impl Kind {
         bail!("the answers go on to change")
     }
 
-    /// What they answer to a text with a number in the place of what stands for it.
+    /// What they answer to a text with a number in place of what stands for it.
     pub(crate) fn output_at<A: Cells, T: Wait>(
         self,
         alloc: Global,

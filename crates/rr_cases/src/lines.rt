@@ -1,6 +1,6 @@
 //! Lines of the line protocol. A first line `# check-lines ..` has the words of the command line;
-//! what follows a `;` in it limits the streams ([`crate::settings`]), and then lines and texts may
-//! be in it several times ([`crate::repeats`]).
+//! what follows a `;` in it limits the streams ([`crate::settings`]), and lines and texts may then
+//! be repeated ([`crate::repeats`]).
 
 use crate::growths::{begin, end};
 use crate::repeats::expanded;
@@ -11,10 +11,10 @@ use rr_process::{ToolFault, check_lines, check_lines_within};
 use rr_words::{Order, read_words};
 use std::alloc::Global;
 
-/// How the words are written of a file whose first line has none.
+/// The words of a file whose first line has none.
 const NO_OPTIONS: &str = "check-lines";
 
-/// The report of the lines, and why they are not all checked.
+/// The report of the lines, and why not all are checked.
 pub(crate) fn answers(alloc: Global, input: &[u8]) -> Result<Vec<u8>> {
     let words = words_of(input);
     match words.split_once("; ") {
@@ -37,7 +37,7 @@ fn options(alloc: Global, words: &str) -> Result<(Precision, i64)> {
     }
 }
 
-/// The report of the lines over streams with some limits.
+/// The report of the lines, over streams with these limits.
 fn report(alloc: Global, words: &str, settings: &Settings, lines: &[u8]) -> Result<Vec<u8>> {
     let (precision, now) = options(alloc, words)?;
     let mut source = settings.source(lines);
@@ -61,7 +61,7 @@ fn ended(mut output: Vec<u8>, checked: Result<u64, ToolFault>) -> Result<Vec<u8>
     Ok(output)
 }
 
-/// The words of the first line, if it has some.
+/// The words of the first line, if it has any.
 fn words_of(input: &[u8]) -> &str {
     match input.split(|byte| *byte == b'\n').next() {
         Some([b'#', b' ', words @ ..]) if words.starts_with(NO_OPTIONS.as_bytes()) => {

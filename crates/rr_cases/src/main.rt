@@ -1,11 +1,11 @@
-//! The cases of the store: files of input, each with a file of the output that is expected of it.
+//! The cases of the store: files of input, each with a file of the output expected of it.
 //!
-//! The program runs in the folder `data/` or in the folder above it. There it looks into each
-//! folder, runs each file through the public calls of the libraries, and compares what they answer
+//! The program runs in the folder `data/` or in the folder above it. It goes through the folders
+//! there, runs each file through the public calls of the libraries, and compares what they answer
 //! with the file of the same name that ends in `.out`. The ending of a file says what it is
 //! ([`kind::Kind`]). The program prints where the two first differ, and at the end how many cases
 //! there are, so that files that aren't found are noticed, and how many growths of their calls were
-//! refused ([`growths`]). It ends with status 1 where a case differs.
+//! refused ([`growths`]). It ends with status 1 if a case differs.
 #![tactic(auto)]
 
 mod archives;

@@ -1,5 +1,5 @@
-//! Configurations of a node with a directory as TOML texts, and what is told of them. A line `---`
-//! stands between two of them.
+//! Configurations of a node with a directory as TOML texts, with a line `---` between two, and what
+//! is told about them.
 
 use crate::configs::{name_of, push_given, push_lines, push_setting, push_some, push_texts};
 use crate::documents::{push_schema, texts};
@@ -16,7 +16,7 @@ pub(crate) fn answers(alloc: Global, input: &[u8]) -> Result<Vec<u8>, AllocError
     Ok(output.into_bytes())
 }
 
-/// For each text what an operator is told of it, a line each, and then a line `---`.
+/// For each text what an operator is told about it, line by line, and then a line `---`.
 pub(crate) fn all_remarks(alloc: Global, input: &[u8]) -> Result<Vec<u8>, AllocError> {
     let mut output = String::new(alloc);
     for text in &texts(alloc, input)? {
@@ -47,7 +47,7 @@ fn push_config(output: &mut String, config: &NodeConfig) -> Result<(), AllocErro
     push_given(output, "; quiet", config.quiet)
 }
 
-/// A text that may be missing.
+/// A text that may be absent.
 fn lent(text: &Option<String>) -> Option<&str> {
     match text {
         Some(text) => Some(text.as_str()),

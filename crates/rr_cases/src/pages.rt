@@ -1,5 +1,5 @@
-//! Pages as bytes in hexadecimal, and changes of them ([`crate::changes`]). They are of three rows
-//! a minute, or where a first line is `# steps N` of two rows of N steps of a second.
+//! Pages as bytes in hexadecimal, and changes of them ([`crate::changes`]). They are of three
+//! one-minute rows, or if the first line is `# steps N` of two rows of N one-second steps.
 
 use crate::cells::{minutes, push_fields, sameness};
 use crate::changes;
@@ -22,7 +22,7 @@ pub(crate) fn answers(alloc: Global, input: &[u8]) -> Result<Vec<u8>> {
     Ok(output.into_bytes())
 }
 
-/// How many steps a row has that a text sets, if it sets them, and its lines.
+/// How many steps a row has, if a text sets that, and its lines.
 fn steps_of(text: &str) -> Result<(Option<u32>, &str)> {
     match changes::setting(text, "steps") {
         Some((steps, lines)) => Ok((Some(steps.parse()?), lines)),
@@ -30,7 +30,7 @@ fn steps_of(text: &str) -> Result<(Option<u32>, &str)> {
     }
 }
 
-/// The schema that the pages are of.
+/// The schema of the pages.
 fn schema_of(alloc: Global, steps: Option<u32>) -> Result<Schema, SchemaFault> {
     match steps {
         Some(steps) => {
@@ -61,7 +61,7 @@ fn push_answer(
     }
 }
 
-/// How many cells were read, whether they are written as the same bytes, and their fields.
+/// Adds how many cells were read, whether they are written as the same bytes, and their fields.
 fn push_cells(output: &mut String, cells: &[Cell], is_same: bool) -> Result<(), AllocError> {
     write!(
         output,

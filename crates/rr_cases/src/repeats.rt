@@ -1,10 +1,10 @@
-//! Lines and texts that are in an input several times. Of a line `*N TEXT` there are N, and a line
-//! `+N TEXT` is one that has the text N times.
+//! Repeated lines and texts of an input. A line `*N TEXT` stands for N lines of the text, and a
+//! line `+N TEXT` for one that has the text N times.
 
 use anyhow::{Context, Result};
 use std::alloc::Global;
 
-/// An input, with the lines and texts that are in it several times as often as they are.
+/// An input with its repeated lines and texts written out.
 pub(crate) fn expanded(alloc: Global, input: &[u8]) -> Result<Vec<u8>> {
     let mut bytes = Vec::new(alloc);
     for line in input.split_inclusive(|byte| *byte == b'\n') {

@@ -1,31 +1,34 @@
-//! Calls of a replica of origin 1, a line each. The first line says how many archives it has: one
-//! of three rows of one step, or another too of two rows of five steps; or how many steps the rows
-//! of each have, of 1, 65 and 128, and it keeps three. A step is a minute.
+//! Calls of a replica of origin 1, one a line. The first line says how many archives it has: one of
+//! three rows of one step, or also one of two rows of five steps; or how many steps the rows of
+//! each have, of 1, 65 and 128, with three rows each. A step is a minute.
 //!
 //! | Call | Answer |
 //! |---|---|
 //! | `put TIME VALUE` | the number of the sample, which is of `m v` |
 //! | `write NOW LEAD LINE` | how many fields are put; the lead `-` is none |
-//! | `join ORIGIN NUMBER SLOT VALUE` | `joined`: a cell of one sample of `m v`, at the start of a slot of the first archive |
+//! | `join ORIGIN NUMBER SLOT VALUE` | `joined`: a cell of one sample of `m v` |
 //! | `join-cells PAGE` | `joined`: the cells of a page in hexadecimal |
 //! | `apply ORIGIN NUMBER TIME VALUE` | `taken` or `not taken`: a sample of `m v` |
-//! | `apply-cell ARCHIVE ORIGIN NUMBER SLOT TIME VALUE` | the same of a cell of one sample at a time, whatever its slot |
-//! | `ready CALL` | `ready`: room is made for the operation of a call `apply` or `apply-cell` |
+//! | `apply-cell ARCHIVE ORIGIN NUMBER SLOT TIME VALUE` | the same for a cell of one sample |
+//! | `ready CALL` | `ready`: room is made for the operation of an `apply` or `apply-cell` |
 //! | `next` | the number of the next sample |
 //! | `cells` | a line for each cell: key, archive, slot, origin, version, count, last value |
-//! | `pull`, `give`, `give-after` and words | what a session over streams wrote and left, and how it ended ([`crate::sessions`]) |
-//! | `puller`, `giver` and words | what one side of a session answers, frame by frame ([`crate::sides`]) |
-//! | `answer SIZE WRITES REQUEST` | the answer to a request, written as `save` writes, and how that ended |
+//! | `pull`, `give`, `give-after` and words | what a session over streams does |
+//! | `puller`, `giver` and words | what a side of a session answers ([`crate::sides`]) |
+//! | `answer SIZE WRITES REQUEST` | the answer to a request, written as `save` writes |
 //! | `after ARCHIVE SLOT ORIGIN KEY` | the first cell after a name, or `none` |
-//! | `keys COUNT KEY` | a line for each key that has a cell, from the first one behind KEY on, or of all if that is missing |
-//! | `keeps TIME KEY` | `kept` or `past the horizon` of a sample at that time |
-//! | `save SIZE WRITES` | the bytes of a snapshot that are written, in hexadecimal, and how that ended ([`crate::stored`]) |
-//! | `load ORIGIN SIZE READS BYTES` | how a snapshot is loaded in the place of the replica ([`crate::stored`]) |
+//! | `keys COUNT KEY` | a line for each key that has a cell, after KEY or, if that is absent, all |
+//! | `keeps TIME KEY` | `kept` or `past the horizon`, for a sample at that time |
+//! | `save SIZE WRITES` | the bytes of a snapshot that are written, in hexadecimal |
+//! | `load ORIGIN SIZE READS BYTES` | how a snapshot is loaded in place of the replica |
 //! | `copy CALL` | what the call of a copy answers, and then a line for each cell of the copy |
-//! | `refuse N CALL` | what the call answers where the growth after N of them is refused |
+//! | `refuse N CALL` | what the call answers if the growth after N others is refused |
 //!
-//! Where memory runs out a call answers `Memory`, of `write` and `join-cells` with how many fields
-//! or cells were done.
+//! The sample of a `join` is at the start of a slot of the first archive; that of an `apply-cell`
+//! is at TIME, whatever its slot. A session over streams ([`crate::sessions`]) answers what it
+//! wrote and left, and how it ended; a side of one answers frame by frame. `answer`, and `save` and
+//! `load` ([`crate::stored`]), also answer how they ended. If memory runs out, a call answers
+//! `Memory`; `write` and `join-cells` add how many fields or cells were done.
 
 ghost use Rattle.std.specs.Prelude.{IfOk};
 ghost use Rattle.rr_cells.specs.CellBounds.{IsCellOf};
@@ -117,7 +120,7 @@ impl<A: Cells> Calls<A> {
         }
     }
 
-    /// Makes a call of another name, with the words after it.
+    /// Makes a call by another name, with the words after it.
     fn push_other(&mut self, name: &str, words: Words<'_>) -> Result<()> {
         match name {
             "pull" => self.hold(Session::Pull, words),
@@ -174,7 +177,7 @@ impl<A: Cells> Calls<A> {
         }
     }
 
-    /// Writes the point of the line that the words are.
+    /// Writes the point of the line that the words make.
     fn write_point(
         &mut self,
         words: Words<'_>,
@@ -291,7 +294,7 @@ impl<A: Cells> Calls<A> {
         }
     }
 
-    /// Adds the keys behind one.
+    /// Adds the keys after one.
     fn push_keys(&mut self, words: Words<'_>) -> Result<()> {
         let (count, after) = behind_of(self.alloc, words)?;
         begin(self.alloc, words.growths);
@@ -348,7 +351,7 @@ pub(crate) fn cell_of(alloc: Global, schema: &Schema, mut words: Words<'_>) -> R
     Ok(cell)
 }
 
-/// A line for a cell.
+/// Adds a line for a cell.
 pub(crate) fn push_cell(output: &mut String, cell: CellRef<'_>) -> Result<(), AllocError> {
     let key = str::from_utf8(cell.key.text()).unwrap_or("");
     let (archive, slot, origin) = (cell.archive, cell.slot, cell.origin.get());

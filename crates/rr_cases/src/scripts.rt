@@ -1,4 +1,4 @@
-//! Scripts. A first line `# growths N` has the growth after N of them refused.
+//! Scripts. A first line `# growths N` has the growth after N others refused.
 
 use crate::changes::setting;
 use crate::growths::{begin, end};
@@ -7,7 +7,7 @@ use rr_archive::Cells;
 use rr_cluster::{RunFault, run_on};
 use std::alloc::Global;
 
-/// What a script prints; where memory runs out a line says so.
+/// What a script prints, or a line that says so if memory runs out.
 pub(crate) fn answers<A: Cells>(alloc: Global, input: &[u8]) -> Result<Vec<u8>> {
     let growths = growths_of(input)?;
     begin(alloc, growths);
@@ -19,7 +19,7 @@ pub(crate) fn answers<A: Cells>(alloc: Global, input: &[u8]) -> Result<Vec<u8>> 
     }
 }
 
-/// How many growths there are before one is refused, where a first line says so.
+/// How many growths there are before one is refused, if a first line says so.
 fn growths_of(input: &[u8]) -> Result<Option<u32>> {
     let Ok(text) = str::from_utf8(input) else {
         return Ok(None);

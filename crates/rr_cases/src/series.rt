@@ -6,7 +6,7 @@ use anyhow::Result;
 use rr_key::SeriesKey;
 use std::alloc::{AllocError, Global};
 
-/// The words COUNT and KEY: how many keys, and behind which, if there is one.
+/// The words COUNT and KEY: how many keys, and after which, if there is one.
 pub(crate) fn behind_of(alloc: Global, mut words: Words<'_>) -> Result<(usize, Option<SeriesKey>)> {
     let count = words.number()?;
     let text = words.rest();

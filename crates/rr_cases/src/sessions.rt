@@ -1,8 +1,8 @@
 //! Sessions of a replica over streams, as calls of it ([`crate::replicas`]).
 //!
 //! The words of a call are how many bytes a read gives and a write takes, how many reads there are
-//! before one fails, how many frames the session may have, each `-` where it is without a limit,
-//! the input in hexadecimal, and where it has a limit how many writes there are before one fails.
+//! before one fails, how many frames the session may have, each `-` if it has no limit; the input
+//! in hexadecimal; and, if that has a limit, how many writes there are before one fails.
 
 use crate::growths::{begin, end};
 use crate::settings::written;
@@ -25,7 +25,7 @@ type Output = Counted<Failing<Room>>;
 struct Given {
     size: usize,
     reads: u64,
-    /// Any number of 16 bits is one that a session may have.
+    /// A session may have any 16-bit number of frames.
     frames: Option<u16>,
     bytes: Vec<u8>,
     writes: u64,
@@ -47,7 +47,7 @@ impl Given {
         self.bytes.first().copied().unwrap_or(0)
     }
 
-    /// The input, after its first byte where that is handed over apart from it.
+    /// The input, without its first byte if that is handed over separately.
     fn input(&self, session: Session) -> Result<Input<'_>> {
         let apart = usize::from(session == Session::GiveAfter);
         let bytes = self.bytes.get(apart..).context("no first byte")?;
@@ -66,7 +66,7 @@ pub(crate) enum Session {
     Pull,
     /// Gives what the input asks for.
     Give,
-    /// Gives what the input asks for, whose first byte is handed over apart from it.
+    /// Gives what the input asks for, whose first byte is handed over separately.
     GiveAfter,
 }
 
@@ -128,8 +128,8 @@ pub(crate) fn push_session<A: Cells>(
     push_ending(alloc, answer, &written(output), input, ended)
 }
 
-/// What was written, how many bytes of the input were left, how many calls of it failed, and how
-/// the session ended.
+/// Adds what was written, how many bytes of the input were left, how many of its calls failed, and
+/// how the session ended.
 fn push_ending(
     alloc: Global,
     answer: &mut String,

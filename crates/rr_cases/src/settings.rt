@@ -7,7 +7,7 @@
 //! | `reads` | how many reads there may be |
 //! | `room` | how many bytes can be written |
 //! | `lead` | how far ahead of the clock a point may be, in nanoseconds |
-//! | `now` | what the clock gives, one after the other, with a comma between two |
+//! | `now` | what the clock gives, in order, with a comma between two |
 //! | `growths` | how many growths of the call there are before one is refused |
 
 use crate::words::{Words, number_of};
@@ -24,7 +24,7 @@ pub(crate) type Sink = Counted<Failing<Room>>;
 /// The limits of a call's streams and of its memory, and its clock.
 #[derive(Drop)]
 pub(crate) struct Settings {
-    /// How many bytes a read gives at most, and a write takes.
+    /// How many bytes a read gives and a write takes at most.
     size: usize,
     /// How many reads there are before one fails.
     read_fails: u64,
@@ -36,14 +36,14 @@ pub(crate) struct Settings {
     pub(crate) reads: Option<u32>,
     /// How far ahead of the clock a point may be.
     pub(crate) lead: Option<u64>,
-    /// What the clock gives, one after the other.
+    /// What the clock gives, in order.
     pub(crate) moments: Vec<i64>,
     /// How many growths there are before one is refused, if one is.
     pub(crate) growths: Option<u32>,
 }
 
 impl Settings {
-    /// The settings of some words; what they don't set is without a limit.
+    /// The settings of some words; what they don't set has no limit.
     pub(crate) fn of(alloc: Global, words: &str) -> Result<Settings> {
         let mut settings = Settings {
             size: usize::MAX,
@@ -98,7 +98,7 @@ where
     Ok(())
 }
 
-/// Sets a number that may be missing to what a text says.
+/// Sets a number that may be absent to what a text says.
 fn set_some<N: FromStr + Drop>(number: &mut Option<N>, text: &str) -> Result<()>
 where
     N::Err: Drop,
@@ -107,7 +107,7 @@ where
     Ok(())
 }
 
-/// Adds the moments of a text, which has a comma between two.
+/// Adds the moments of a text, with a comma between two.
 fn push_moments(moments: &mut Vec<i64>, text: &str) -> Result<()> {
     for moment in text.split(',') {
         moments.push(number_of(moment)?)?;

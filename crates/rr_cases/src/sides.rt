@@ -1,12 +1,14 @@
 //! A side of a session, frame by frame, as a call of a replica ([`crate::replicas`]).
 //!
-//! The words of the call are how many frames the session may have each way, `-` where it is without
-//! a limit, and then what is done, with an answer for each:
+//! The words of the call are how many frames the session may have each way, `-` if it has no limit,
+//! and then what is done, with an answer for each:
 //!
 //! | Word | Answer |
 //! |---|---|
 //! | `next` | the next frame in hexadecimal, or `none` |
-//! | a frame without its length, in hexadecimal; `-` is the empty one, `N*BYTES` has the bytes N times | it is taken: `last`, or `more` where it wasn't the last |
+//! | a frame without its length, in hexadecimal | it is taken: `last`, or `more` if it isn't |
+//!
+//! A frame `-` is the empty one, and `N*BYTES` has the bytes N times.
 
 use crate::growths::{begin, end};
 use crate::printed::push_line;
@@ -24,7 +26,7 @@ pub(crate) enum Side {
     Pulls(Puller),
 }
 
-/// The side that gives. Any number of 16 bits is one of frames that a session may have.
+/// The side that gives. A session may have any 16-bit number of frames.
 pub(crate) fn giver(frames: Option<u16>) -> Side {
     match frames {
         Some(most) => Side::Gives(Giver::with_limit(u32::from(most))),
@@ -65,7 +67,7 @@ impl Side {
     }
 }
 
-/// Does what the words say, one after the other, and adds a line for each.
+/// Does what the words say, one after another, and adds a line for each.
 pub(crate) fn push_steps<A: Cells>(
     alloc: Global,
     mut side: Side,

@@ -12,8 +12,8 @@ use rr_replica::Replica;
 use rr_snapshot::{LoadFault, SaveFault, load, save};
 use std::alloc::{AllocError, Global};
 
-/// Adds the bytes that were written as a replica was saved, in hexadecimal, and how that ended. The
-/// words are how many bytes a write takes, and how many writes there are before one fails.
+/// Adds the bytes that were written when a replica was saved, in hexadecimal, and how that ended.
+/// The words are how many bytes a write takes, and how many writes there are before one fails.
 pub(crate) fn push_saved<A: Cells>(
     alloc: Global,
     replica: &Replica<A>,
@@ -39,9 +39,9 @@ fn push_fault(answer: &mut String, saved: Result<(), SaveFault>) -> Result<()> {
     }
 }
 
-/// The replica that the bytes of some words are loaded as, if they are one; and adds how that
-/// ended. The words are its origin, how many bytes a read gives, how many reads there are before
-/// one fails, and the bytes.
+/// Returns the replica that the bytes of some words load as, if they do, and adds how that ended.
+/// The words are its origin, how many bytes a read gives, how many reads there are before one
+/// fails, and the bytes.
 pub(crate) fn loaded<A: Cells>(
     alloc: Global,
     schema: &Schema,
@@ -60,7 +60,7 @@ pub(crate) fn loaded<A: Cells>(
     Ok(replica.ok())
 }
 
-/// Adds how a replica was loaded, with how many reads failed where it wasn't.
+/// Adds how a replica was loaded, with how many reads failed if it wasn't.
 fn push_loaded<A: Cells>(
     loaded: &Result<Replica<A>, LoadFault>,
     failures: u64,

@@ -4,7 +4,7 @@ use anyhow::{Context, Result};
 use rr_base::Origin;
 use std::str::FromStr;
 
-/// The words of a call from one of them on. There is one space between two.
+/// The words of a call from one of them on, with one space between two.
 #[derive(Clone, Copy)]
 pub(crate) struct Words<'a> {
     rest: &'a str,

@@ -1,4 +1,4 @@
-//! Lines without a time, which are of the moment at which they come.
+//! Lines without a time, which get the moment at which they come.
 
 use rr_base::Counted;
 use rr_desk::open;
@@ -15,10 +15,10 @@ use std::sync::Wait;
 use std::test::Fail;
 use std::time::{Clock, Duration};
 
-/// Two samples of a series, without a time.
+/// Two samples of a series, without times.
 const LINES: &[u8] = b"m v=1i\nm v=2i\n";
 
-/// A clock that is a minute later each time it is read.
+/// A clock that is a minute later at each reading.
 #[derive(Drop)]
 struct Later {
     minutes: Cell<u32>,
@@ -36,7 +36,7 @@ impl Clock for Later {
     }
 }
 
-/// How many cells of a minute there are after as many connections, each with the lines.
+/// How many one-minute cells there are after this many connections, each with the lines.
 fn cells_after<R: Wait>(rt: &R, alloc: Global, connections: usize) -> Option<usize> {
     let replica = minutes::<PackedArchive>(alloc, 1, 3).ok()?;
     let (mut keeper, _readers) = open(alloc, rt, replica, 1).ok()?;

@@ -1,4 +1,4 @@
-//! What the program says of the files of a directory.
+//! What the program says about the files of a directory.
 use super::process::{Given, Process};
 use rr_fakes::journals::{HEADER, HEADER_101, RECORDS, file};
 use rr_process::Ending;
@@ -8,13 +8,13 @@ use std::fs;
 use std::sync::Wait;
 use std::test::Fail;
 
-/// The two files of the journal, and what is said of them.
+/// What is said about the two files of the journal.
 const CHECKED: &str = "journal-00000000000000000000.rrj records 2 cells 6 end
 journal-00000000000000000101.rrj records 1 cells 0 torn 20
 joined
 ";
 
-/// The cells of the first, as a decoder in another language reads them.
+/// The cells of the first file, as a decoder in another language reads them.
 const CELLS: &str = "\
 cpu value,0,0,1,10,1,100,100,100,0,100,00000000000000000000000000000001
 cpu value,0,0,7,500,1,-5,-5,-5,1,-5,00000000000000000000000000000001

@@ -8,7 +8,7 @@ use std::io::Write;
 use std::rt::Files;
 use std::test::Fail;
 
-/// Hands a shelf back a writer to which a text was written, as whole or not.
+/// Writes a text to a shelf's writer, and hands that back to the shelf as whole or not.
 fn put_back(
     rt: &(impl AllocGlobal + Files + Eprint),
     file: &str,

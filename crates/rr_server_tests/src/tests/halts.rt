@@ -1,6 +1,6 @@
-//! A node without end that ends where memory runs out on one of its threads, whatever the others
-//! wait for, and where one of them doesn't begin. A keeper that runs out of memory halts it, which
-//! raises the same flag.
+//! A node that runs without end, but ends if memory runs out on one of its threads, whatever the
+//! others wait for, and if one of them doesn't begin. A keeper that runs out of memory halts it,
+//! which raises the same flag.
 
 use rr_desk::{Keeper, Reader, open};
 use rr_fakes::clock::Moments;
@@ -17,18 +17,18 @@ use std::test::Fail;
 use std::thread::Threads;
 use std::time::Instant;
 
-/// The configuration of a node without end with two readers. Its connections may be silent without
-/// end.
+/// The configuration of a node that runs without end, with two readers. Its connections may be
+/// silent forever.
 const CONFIG: &[u8] = b"step = 60\nlines = \"l\"\nfetch = [\"f\", \"g\"]\n\
     [[archive]]\nsteps = 1\nrows = 3\nxff_num = 0\nxff_den = 1\n";
 
-/// What is sent: a request for which a reader takes memory.
+/// What is sent: a request that takes a reader memory.
 const REQUEST: &[u8] = b"fetch LAST 60 0 60 m v\n";
 
 /// Where each of two readers is reached.
 type Addresses = (SocketAddr, SocketAddr);
 
-/// Connections that come to a port of this machine, and its address.
+/// The connections to a free port of this machine, and its address.
 fn listening<R: Net<Listener = TcpListener, Stream = TcpStream>>(
     rt: &R,
     alloc: Global,
@@ -42,7 +42,7 @@ fn listening<R: Net<Listener = TcpListener, Stream = TcpStream>>(
     Some((listening, address))
 }
 
-/// The connections that come to free ports of this machine: for lines, and for two readers.
+/// The connections to free ports of this machine: for lines, and for two readers.
 fn listen_on_all<R: Net<Listener = TcpListener, Stream = TcpStream>>(
     rt: &R,
     alloc: Global,
@@ -77,7 +77,7 @@ fn seats(
     Some(TcpSeats { seats, halt })
 }
 
-/// Serves as a node until it ends, and answers whether that was without a fault.
+/// Serves as a node until it ends, and returns whether that was without a fault.
 fn serve<R>(
     rt: &R,
     alloc: Global,
@@ -107,7 +107,7 @@ fn readers<R: Wait>(rt: &R, alloc: Global) -> Option<Vec<Reader<PackedArchive>>>
     Some(readers)
 }
 
-/// Two that send: one that is silent, and one that has sent the request.
+/// Two senders: one that is silent, and one that has sent the request.
 fn senders<R: Net<Stream = TcpStream>>(
     rt: &R,
     silent: SocketAddr,
@@ -169,7 +169,7 @@ fn a_halt_raises_the_flag(rt: HostRuntime) -> Result<(), Fail> {
     Ok(())
 }
 
-// Of the node's two threads one never begins.
+// One of the node's two threads never begins.
 #[test]
 fn a_node_whose_threads_do_not_begin_is_over(rt: HostRuntime) -> Result<(), Fail> {
     let start = StartBarrier::new(rt.alloc(), 2)?;

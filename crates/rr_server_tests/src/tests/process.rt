@@ -17,8 +17,8 @@ use std::sync::{Mutex, Wait};
 use std::thread::Threads;
 use std::time::{Clock, Duration};
 
-/// What a process is given: its words, the program's name first, with single spaces between them,
-/// its standard input, its ports and the time.
+/// What a process is given: its words, the program's name first, separated by single spaces; its
+/// standard input; its ports; and the time.
 ///
 /// Port 1 of this machine is the first listener, port 2 the second, and so on; no other port can be
 /// listened on or reached.
@@ -31,7 +31,7 @@ pub(crate) struct Given<'a> {
     pub(crate) moment: Option<u64>,
 }
 
-/// A process over what it is given. Its files and threads are the host's, and what it prints is
+/// A process with what it is given. Its files and threads are the host's, and what it prints is
 /// kept.
 #[derive(Drop)]
 pub(crate) struct Process<'a, R> {

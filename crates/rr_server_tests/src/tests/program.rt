@@ -1,6 +1,6 @@
-//! The program whole, by its words: what it prints, and the status that it ends with.
+//! The whole program, by its words: what it prints, and the status that it ends with.
 //!
-//! Each test calls [`run`] itself, since no function that is generic in the host can hand the
+//! Each test calls [`run`] itself, since no function that is generic in the host can pass the
 //! host's threads on.
 
 use super::process::{Given, Process};
@@ -21,7 +21,7 @@ use std::test::Fail;
 /// and the status. Nothing is on standard error if they begin with nothing.
 pub(crate) type End<'a> = (&'a [u8], &'a [u8], &'a [u8], u8);
 
-/// Whether a process ends so.
+/// Whether a process ends like this.
 pub(crate) fn is_end<R: Wait + Alloc<A = Global>>(
     process: Process<'_, R>,
     ending: &Ending,
@@ -38,7 +38,7 @@ pub(crate) fn is_end<R: Wait + Alloc<A = Global>>(
         && ending.status() == want.3
 }
 
-/// Writes files, by their names and texts. Answers whether all could be written.
+/// Writes files, by their names and texts. Returns whether all could be written.
 pub(crate) fn are_written(host: &impl Files, files: &[(&str, &[u8])]) -> bool {
     let mut are_written = true;
     for (name, text) in files {
@@ -52,7 +52,7 @@ pub(crate) fn are_written(host: &impl Files, files: &[(&str, &[u8])]) -> bool {
 /// Removes these files.
 pub(crate) fn remove(host: &impl Files, files: &[(&str, &[u8])]) {
     for (name, _) in files {
-        // A file that is left stands in no test's way.
+        // A file that is left is in no test's way.
         let _removed = fs::remove_file(host, name);
     }
 }
@@ -65,7 +65,7 @@ pub(crate) fn snapshot(alloc: Global) -> Option<Vec<u8>> {
     Some(output.into_inner())
 }
 
-/// The files that the words name, but for `held.snapshot`, which is of origin 3.
+/// The files that the words name, except `held.snapshot`, which is of origin 3.
 const FILES: [(&str, &[u8]); 5] = [
     ("script.rr", SCRIPT),
     ("short.toml", b"step = 60\n"),
@@ -77,17 +77,16 @@ const FILES: [(&str, &[u8]); 5] = [
 const SCRIPT: &[u8] =
     b"schema 60 1:3:0/1\nnode a 1\nwrite a m v=7i 60000000000\nfetch a AVERAGE 60 60 120 m v\n";
 
-/// A configuration whose lines are taken on port 1, which is there, and whose fetches on port 2,
-/// which isn't.
+/// A configuration that takes lines on port 1, which is there, and fetches on port 2, which isn't.
 const FAR: &[u8] = b"step = 60\nlines = \"127.0.0.1:1\"\nfetch = [\"127.0.0.1:2\"]\nlead = 0\n\
     [[archive]]\nsteps = 1\nrows = 3\nxff_num = 0\nxff_den = 1\n";
 
-/// One whose lines are taken on port 3, which isn't there.
+/// One that takes lines on port 3, which isn't there.
 const NONE: &[u8] = b"step = 60\nlines = \"127.0.0.1:3\"\nfetch = [\"127.0.0.1:1\"]\nlead = 0\n\
     [[archive]]\nsteps = 1\nrows = 3\nxff_num = 0\nxff_den = 1\n";
 
-/// Words, the input, all of the script if it is missing, and the end: the status, the line on
-/// standard output, and how the lines on standard error begin and end.
+/// Words; the input, which is the script if absent; and the end: the status, the line on standard
+/// output, and how the lines on standard error begin and end.
 const ENDS: &str = "rr | | 0 | m v,60,7 | |
 rr sim | | 0 | m v,60,7 | |
 rr sim script.rr | m | 0 | m v,60,7 | |
@@ -199,7 +198,7 @@ fn words_choose_what_is_done(rt: HostRuntime) -> Result<(), Fail> {
         let process = Process::new(&rt, given(line, &ports));
         let ending = run(&process);
         assert!(rt; is_told(process, &ending, line));
-        // Without what serves a node, other words end alike.
+        // Without what serves a node, other words end the same way.
         if !line.starts_with("rr serve") {
             let process = Process::new(&rt, given(line, &ports));
             let ending = rr_process::run(&process);

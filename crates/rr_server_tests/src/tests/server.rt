@@ -1,5 +1,5 @@
-//! A node by its words, over TCP and files: its configuration, the snapshot that it begins with,
-//! its peers and what it saves.
+//! A node run by its words, over TCP and files: its configuration, the snapshot that it begins
+//! with, its peers and what it saves.
 
 use super::process::{Given, Process};
 use super::program::{are_written, is_end, remove, snapshot};
@@ -12,24 +12,24 @@ use std::test::Fail;
 use std::thread::join;
 use std::time::Duration;
 
-/// A node of three rows a minute with two readers. Of its peers the first can't be reached, and the
+/// A node of three one-minute rows with two readers. Its first peer can't be reached, and the
 /// second is at port 4. A connection may be silent for three seconds.
 const FIRST: &[u8] = b"step = 60\nlines = \"127.0.0.1:1\"\n\
     fetch = [\"127.0.0.1:2\", \"127.0.0.1:3\"]\npeers = [\"127.0.0.1:9\", \"127.0.0.1:4\"]\n\
     rounds = 1\nvisits = 2\nidle = 3\nlead = 300000000000\nprecision = \"s\"\n\
     [[archive]]\nsteps = 1\nrows = 3\nxff_num = 0\nxff_den = 1\n";
 
-/// The same with one reader, whose one peer is at port 3, with no line ahead of the clock, and with
-/// rows of three minutes too, of which the snapshot of the first has none.
+/// The same with one reader and one peer, at port 3, with no line ahead of the clock, and with
+/// three-minute rows too, of which the first node's snapshot has none.
 const SECOND: &[u8] = b"step = 60\nlines = \"127.0.0.1:1\"\nfetch = [\"127.0.0.1:2\"]\n\
     peers = [\"127.0.0.1:3\"]\nrounds = 1\nvisits = 1\nidle = 3\nlead = 0\nquiet = true\n\
     [[archive]]\nsteps = 1\nrows = 3\nxff_num = 0\nxff_den = 1\n\
     [[archive]]\nsteps = 3\nrows = 2\nxff_num = 2\nxff_den = 3\n";
 
-/// Three minutes are asked for.
+/// A request for three minutes.
 const REQUEST: &[u8] = b"fetch LAST 60 0 180 m v\n";
 
-/// These, and the row of all three.
+/// The same, and one for the row of all three.
 const REQUESTS: &[u8] = b"fetch LAST 60 0 180 m v\nfetch LAST 180 0 180 m v\n";
 
 /// Listens on four ports of this machine.
@@ -46,12 +46,12 @@ fn listen(
     Some(ports)
 }
 
-/// Where a port is reached, of which the first is port 1.
+/// The address of a port, the first of which is port 1.
 fn address(ports: &[TcpListener], port: usize) -> Option<SocketAddr> {
     ports.get(port.wrapping_sub(1))?.local_addr().ok()
 }
 
-/// What is answered to a text on a connection of its own, on which no read waits for longer than 20
+/// The answer to a text on a connection of its own, on which no read waits for longer than 20
 /// seconds.
 fn answer<R: Net<Stream = TcpStream>>(
     rt: &R,
@@ -68,7 +68,7 @@ fn answer<R: Net<Stream = TcpStream>>(
     Some(answer)
 }
 
-/// Whether a text is answered by another.
+/// Whether the answer to a text is `wanted`.
 fn answers<R: Net<Stream = TcpStream>>(
     rt: &R,
     alloc: Global,
@@ -79,8 +79,8 @@ fn answers<R: Net<Stream = TcpStream>>(
     answer(rt, alloc, address, text).is_some_and(|answer| answer.as_slice() == wanted)
 }
 
-/// Gives the next side that pulls at a port what a peer holds: 7 at a minute after the epoch.
-/// Answers once that side is done, whether it began as a side does that pulls by this schema.
+/// Gives the next side that pulls at a port what a peer holds: 7, one minute after the epoch.
+/// Returns, once that side is done, whether it began like one that pulls by this schema.
 fn gives(ports: &[TcpListener], port: usize, alloc: Global) -> Option<bool> {
     let (mut stream, _) = ports.get(port.wrapping_sub(1))?.accept().ok()?;
     stream.write_all(&REPLY).ok()?;
@@ -90,7 +90,7 @@ fn gives(ports: &[TcpListener], port: usize, alloc: Global) -> Option<bool> {
 }
 
 /// Whether the first node takes lines, pulls, and answers with all that it then has: a line without
-/// a time is of the clock's moment. The second reader answers while the first waits for a silent
+/// a time gets the clock's moment. The second reader answers while the first waits for a silent
 /// connection, which ends.
 fn uses_first<R: Net<Stream = TcpStream>>(
     host: &R,
@@ -113,7 +113,7 @@ fn uses_first<R: Net<Stream = TcpStream>>(
 }
 
 /// Whether the second node takes a line at the epoch, since its clock can't be read, and no later
-/// one. That line's sample alone is in the archive that the snapshot lacked.
+/// one. Only that line's sample is in the archive that the snapshot lacked.
 fn uses_second<R: Net<Stream = TcpStream>>(
     host: &R,
     alloc: Global,
@@ -127,7 +127,7 @@ fn uses_second<R: Net<Stream = TcpStream>>(
     Some(is_taken && answers(host, alloc, one, REQUESTS, held))
 }
 
-/// What a node is given, of two that serve one after the other. The first loads a snapshot, and
+/// What each of two nodes that serve one after the other is given. The first loads a snapshot, and
 /// saves one. The second loads that one, and can't save: a folder has the name.
 fn given(place: usize, ports: &[TcpListener]) -> Given<'_> {
     let (words, moment) = if place == 0 {
@@ -145,8 +145,8 @@ fn given(place: usize, ports: &[TcpListener]) -> Given<'_> {
     }
 }
 
-/// How what such a node prints on standard error begins and ends. The first one says with what it
-/// starts; the second one, which is quiet, has a silent peer.
+/// How what such a node prints on standard error begins and ends. The first says what it starts
+/// with; the second, which is quiet, has a silent peer.
 fn complaint(place: usize) -> (&'static [u8], &'static [u8]) {
     if place == 0 {
         (
@@ -161,7 +161,7 @@ fn complaint(place: usize) -> (&'static [u8], &'static [u8]) {
 /// The configurations of the nodes.
 const FILES: [(&str, &[u8]); 2] = [("first.toml", FIRST), ("second.toml", SECOND)];
 
-/// Whether such a node does what it is to do.
+/// Whether such a node does what it should.
 fn uses<R: Net<Stream = TcpStream>>(
     host: &R,
     alloc: Global,

@@ -1,4 +1,4 @@
-//! Files that tell when they were put to the disk and renamed.
+//! Files that note when they are synced and renamed.
 
 use std::alloc::{Allocator, Global};
 use std::fmt::Display;
@@ -8,13 +8,13 @@ use std::io::{Read, Seek, SeekFrom, Write};
 use std::rt::Files;
 use std::sync::atomic::{AtomicU64, Ordering};
 
-/// A call that puts what a file or a folder holds to the disk.
+/// A call that syncs a file or a folder.
 const SYNC: u64 = 1;
 
 /// A call that renames a file.
 const RENAME: u64 = 2;
 
-/// The calls that put something to the disk or rename it, in order: each is a digit.
+/// The calls that sync or rename something, in order: each is a digit.
 #[derive(Drop)]
 pub(crate) struct DiskCalls {
     digits: AtomicU64,
@@ -28,7 +28,7 @@ impl DiskCalls {
         }
     }
 
-    /// The digits of the calls until now.
+    /// The digits of the calls so far.
     pub(crate) fn digits(&self) -> u64 {
         self.digits.load(Ordering::SeqCst)
     }
@@ -39,14 +39,14 @@ impl DiskCalls {
     }
 }
 
-/// The files of a host, whose calls are noted.
+/// The files of a host, with their calls noted.
 #[derive(Drop)]
 pub(crate) struct NotedFiles<'a, R> {
     pub(crate) host: &'a R,
     pub(crate) calls: &'a DiskCalls,
 }
 
-/// A file of which is noted when it is put to the disk.
+/// A file of which each `sync_all` is noted.
 #[derive(Drop)]
 pub(crate) struct NotedFile<'a, F> {
     file: F,

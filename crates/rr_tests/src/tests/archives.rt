@@ -1,4 +1,4 @@
-//! Archives by their trait: the calls that take memory answer.
+//! Archives through their trait: the calls that take memory succeed.
 use rr_archive::{Cells, PlainArchive};
 use rr_base::Origin;
 use rr_contrib::Contribution;
@@ -6,7 +6,7 @@ use rr_packed::PackedArchive;
 use rr_ring::RingArchive;
 use std::alloc::{AllocError, Global};
 
-/// An archive of three rows with a first sample in slot 1, for which there was room.
+/// An archive of three rows with a first sample in slot 1, for which room was made.
 fn with_first<A: Cells>(alloc: Global, origin: Origin) -> Result<A, AllocError> {
     let mut archive = A::new(alloc, 3);
     archive.ready(1, origin)?;
@@ -14,8 +14,8 @@ fn with_first<A: Cells>(alloc: Global, origin: Origin) -> Result<A, AllocError> 
     Ok(archive)
 }
 
-/// The cells, the newest slot and the last value there of the copy of an archive, into which a
-/// sample was put for which there was room, and then a cell was joined.
+/// The number of cells, the newest slot and the last value there, in the copy of an archive that
+/// had a sample put into it, with room made for it, and then a cell joined.
 fn copied<A: Cells>(alloc: Global) -> Option<(usize, Option<i64>, Option<i64>)> {
     let origin = Origin::new(1).ok()?;
     let mut archive: A = with_first(alloc, origin).ok()?;
@@ -32,7 +32,7 @@ fn last_value<A: Cells>(alloc: Global, archive: &A) -> Option<i64> {
     row.first().map(|entry| entry.contribution.last_value)
 }
 
-/// Whether an archive of a kind takes both.
+/// Whether an archive of this kind takes both.
 fn takes_both<A: Cells>(alloc: Global) -> bool {
     copied::<A>(alloc) == Some((2, Some(2), Some(9)))
 }

@@ -1,4 +1,4 @@
-//! A connection on which a request comes, once.
+//! A connection that brings a request, once.
 
 use rr_base::Counted;
 use rr_node::{Visit, Visits};
@@ -30,7 +30,7 @@ impl Read for Request {
     }
 }
 
-/// Visits of which the first is the request, and what was answered to it. Nothing is known of its
+/// Visits, the first of which is the request, and the answer to it. Nothing is known of their
 /// calls.
 #[derive(Drop)]
 pub(crate) struct Asked {
@@ -40,7 +40,7 @@ pub(crate) struct Asked {
 }
 
 impl Asked {
-    /// The request will come.
+    /// Visits whose request is still to come.
     pub(crate) fn new(alloc: Global) -> Asked {
         Asked {
             alloc,
@@ -49,7 +49,7 @@ impl Asked {
         }
     }
 
-    /// What was answered, once the connection is handed back.
+    /// The answer, once the connection is handed back.
     pub(crate) fn into_answer(self) -> Option<Vec<u8>> {
         self.answer
     }

@@ -1,4 +1,4 @@
-//! Batches of writes: what their items are answered where the journal is written, and where it isn't.
+//! Batches of writes: the answers to their items if the journal is written, and if it isn't.
 
 use super::journal::start;
 use rr_batch::{Writer, commit_batch};
@@ -13,7 +13,7 @@ use rr_reactor::{Answer, Item, Outcome, Work};
 use std::alloc::{AllocError, Global};
 use std::sync::Wait;
 
-/// A request to write two lines, of which one is refused.
+/// A request to write two lines, one of which is refused.
 fn body(alloc: Global) -> Result<Work, AllocError> {
     Ok(Work::Request(Request {
         method: Vec::from_slice(alloc, b"POST")?,
@@ -23,7 +23,7 @@ fn body(alloc: Global) -> Result<Work, AllocError> {
     }))
 }
 
-/// A piece of a connection of lines, and whether it is the first and the last one.
+/// A piece of a line connection; whether it is the first, and whether it is the last.
 fn piece(alloc: Global, text: &[u8], is_first: bool, is_last: bool) -> Result<Work, AllocError> {
     Ok(Work::Piece(Piece {
         text: Vec::from_slice(alloc, text)?,
@@ -32,7 +32,7 @@ fn piece(alloc: Global, text: &[u8], is_first: bool, is_last: bool) -> Result<Wo
     }))
 }
 
-/// The items of a body, and of a connection that another one had before it.
+/// The items of a body, of a line connection, and of a later one under the same key.
 fn items(alloc: Global) -> Result<Vec<Item>, AllocError> {
     let mut items = Vec::new(alloc);
     for (key, work) in [
@@ -46,7 +46,7 @@ fn items(alloc: Global) -> Result<Vec<Item>, AllocError> {
     Ok(items)
 }
 
-/// Adds an answer, and a bar behind it.
+/// Adds an answer, followed by a bar.
 fn push_answer(alloc: Global, text: &mut Vec<u8>, answer: &Answer) -> Result<(), AllocError> {
     match &answer.outcome {
         Outcome::Reply(reply) => {
@@ -61,7 +61,7 @@ fn push_answer(alloc: Global, text: &mut Vec<u8>, answer: &Answer) -> Result<(),
     Ok(())
 }
 
-/// What the items are answered over a journal of which the call after so many others fails.
+/// The answers to the items with a journal whose call after this many others fails.
 fn answers_of<R: Wait>(
     rt: &R,
     alloc: Global,
@@ -90,7 +90,7 @@ fn answers_of<R: Wait>(
     Ok(text)
 }
 
-/// What a keeper that was just opened answers, over a journal of which that call fails.
+/// The answers of a keeper that was just opened, with such a journal.
 fn answered<R: Wait>(rt: &R, alloc: Global, calls: u64) -> Option<Vec<u8>> {
     let (mut keeper, _readers) = open(alloc, rt, minutes(alloc, 1, 3).ok()?, 1).ok()?;
     let text = answers_of(rt, alloc, &mut keeper, calls);
@@ -98,12 +98,12 @@ fn answered<R: Wait>(rt: &R, alloc: Global, calls: u64) -> Option<Vec<u8>> {
     text.ok()
 }
 
-/// What is answered where the journal is written.
+/// The answers if the journal is written.
 const SAVED: &[u8] =
     b"400 {\"error\":\"partial write: line 2: FloatField; points 1 samples 1 refused 1\"}\n|\
     |line 2: BadField\n|line 2: NoFields\npoints 1 samples 1 refused 1\n|";
 
-/// And where it isn't.
+/// And if it isn't.
 const UNSAVED: &[u8] =
     b"500 {\"error\":\"the lines are taken, but not saved\"}\n||line 2: BadField\n|closed|";
 

@@ -7,10 +7,10 @@ use rr_replica::Replica;
 use rr_ring::RingArchive;
 use std::alloc::Global;
 
-/// How many nanoseconds a minute has.
+/// A minute, in nanoseconds.
 const MINUTE: i64 = 60_000_000_000;
 
-/// A replica of ten rows of a minute, and ten of five minutes.
+/// A replica of ten one-minute rows and ten five-minute rows.
 fn replica(alloc: Global, origin: u16) -> Option<Replica<RingArchive>> {
     let minutes = ArchiveSpec {
         steps: 1,
@@ -53,7 +53,7 @@ fn put(
     Some(())
 }
 
-/// Joins the next three changes after a cell. Answers how many there were, and the last of them.
+/// Joins the next three changes after a cell. Returns how many there were, and the last of them.
 fn join_next(
     alloc: Global,
     replica: &Replica<RingArchive>,
@@ -72,7 +72,7 @@ fn join_next(
     }
 }
 
-/// Joins all changes, and forgets them. Answers how many there were.
+/// Joins all changes, and forgets them. Returns how many there were.
 fn join_all(
     alloc: Global,
     replica: &Replica<RingArchive>,
@@ -93,7 +93,7 @@ fn join_all(
     None
 }
 
-/// Whether replicas have the same cells.
+/// Whether replicas have the same cells, whatever their origins.
 fn have_same_cells(one: &Replica<RingArchive>, other: &Replica<RingArchive>) -> bool {
     for i in 0..one.cell_count() {
         let (Some(own), Some(its)) = (one.cell_at(i), other.cell_at(i)) else {
@@ -110,8 +110,8 @@ fn have_same_cells(one: &Replica<RingArchive>, other: &Replica<RingArchive>) -> 
     one.cell_count() == other.cell_count()
 }
 
-/// How many changes two series of twenty minutes leave; then how many there are of one of them,
-/// at a new and at a late minute, and of a third series; and whether the copy has all cells.
+/// How many changes two series of twenty minutes leave; then how many a new and a late minute of
+/// one of them leave, with a third series; and whether the copy has all cells.
 fn found(alloc: Global) -> Option<(usize, usize, bool)> {
     let mut replica = replica(alloc, 1)?;
     let mut copy = self::replica(alloc, 2)?;

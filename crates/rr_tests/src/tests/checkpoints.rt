@@ -1,4 +1,4 @@
-//! Checkpoints that are written from a reader, and read again.
+//! Checkpoints written from a reader, and read back.
 use super::journal::start;
 use rr_base::{ArchiveSpec, Counted, Origin, Schema};
 use rr_cells::Cell;
@@ -13,13 +13,13 @@ use rr_replica::Replica;
 use std::alloc::Global;
 use std::sync::Wait;
 
-/// How many nanoseconds a minute has.
+/// A minute, in nanoseconds.
 const MINUTE: i64 = 60_000_000_000;
 
 /// The texts of the keys of three series.
 const KEYS: [&[u8]; 3] = [b"a v", b"b,site=north v", b"b,site=south w"];
 
-/// A schema of 300 rows of a minute, and as many of five minutes.
+/// A schema of 300 one-minute rows, and as many five-minute rows.
 fn schema(alloc: Global) -> Option<Schema> {
     let minutes = ArchiveSpec {
         steps: 1,
@@ -34,8 +34,8 @@ fn schema(alloc: Global) -> Option<Schema> {
     Schema::new(alloc, 60, &[minutes, fives]).ok()
 }
 
-/// Puts a value of each series at each of some minutes, publishes all, and commits it to a file of the
-/// journal that begins at the cursor. Answers the file.
+/// Puts a value of each series at each of these minutes, publishes all, and commits it to a file of
+/// the journal that begins at the cursor. Returns the file.
 fn filled<R: Wait>(
     rt: &R,
     alloc: Global,
@@ -56,7 +56,7 @@ fn filled<R: Wait>(
     Vec::from_slice(alloc, journal.bytes()).ok()
 }
 
-/// The replica that a start makes of a checkpoint at an offset, and of a file of the journal there.
+/// The replica that a start makes from a checkpoint and a file of the journal at the same offset.
 fn recovered(
     alloc: Global,
     offset: u64,
@@ -99,7 +99,7 @@ fn has_cells(replica: &Replica<PackedArchive>, cells: &[Cell]) -> bool {
     replica.cell_count() == cells.len()
 }
 
-/// Whether a start from a checkpoint and a file of the journal behind it has what a reader gives.
+/// Whether a start from a checkpoint and the journal's file after it has what a reader gives.
 fn is_read_back(
     alloc: Global,
     reader: &mut Reader<PackedArchive>,
@@ -112,8 +112,8 @@ fn is_read_back(
     Some(has_cells(&replica, &cells))
 }
 
-/// How many cells a checkpoint has, and whether it is read back with nothing behind it, and with what
-/// was committed since.
+/// How many cells a checkpoint has, and whether it is read back with nothing after it, and with
+/// what was committed since.
 fn written<R: Wait>(
     rt: &R,
     alloc: Global,
@@ -133,7 +133,7 @@ fn written<R: Wait>(
     Some((cells, alone, both))
 }
 
-/// What comes of a desk that was just opened.
+/// The same for a desk that was just opened.
 fn found<R: Wait>(rt: &R, alloc: Global) -> Option<(u64, bool, bool)> {
     let replica = empty_replica(alloc, &schema(alloc)?, Origin::new(1).ok()?).ok()?;
     let (mut keeper, mut readers) = open(alloc, rt, replica, 1).ok()?;
@@ -151,7 +151,7 @@ fn a_checkpoint_is_read_back(rt: HostRuntime) {
     assert_eq!(rt; found, Some((720, true, true)));
 }
 
-/// Why a checkpoint of an empty desk isn't written, if there is room for so many bytes.
+/// Why a checkpoint of an empty desk isn't written, with room for this many bytes.
 fn refused<R: Wait>(rt: &R, alloc: Global, room: usize) -> Option<CheckpointFault> {
     let replica = empty_replica::<PackedArchive>(alloc, &schema(alloc)?, Origin::new(1).ok()?);
     let mut bytes = vec![in alloc; 0u8; room].ok()?;

@@ -12,7 +12,7 @@ use rr_replica::Replica;
 use std::alloc::Global;
 use std::sync::Wait;
 
-/// How many nanoseconds a minute has.
+/// A minute, in nanoseconds.
 const MINUTE: i64 = 60_000_000_000;
 
 /// Puts a sample of each of two series.
@@ -24,7 +24,8 @@ fn put_two(alloc: Global, keeper: &mut Keeper<PackedArchive>, time: i64) -> Opti
     Some(())
 }
 
-/// How many cells a replica has by a replay of these records, why it ended, and behind how many bytes.
+/// How many cells a replica has after a replay of these records, why that ended, and after how many
+/// bytes.
 fn replayed(alloc: Global, records: &[u8]) -> Option<(usize, Stop, u64)> {
     let schema = schema(alloc, 3).ok()?;
     let origin = Origin::new(9).ok()?;
@@ -43,9 +44,9 @@ fn replayed(alloc: Global, records: &[u8]) -> Option<(usize, Stop, u64)> {
     Some((replica.cell_count(), stop.ok()?, place.offset))
 }
 
-/// How many cells are read back of what a keeper committed, at a sample of each of two series and
-/// then at a later one; how many series have changed then; and whether all bytes were synced and
-/// read, up to the cursor.
+/// How many cells are read back of what a keeper committed, after a sample of each of two series
+/// and then after a later one of each; how many series are then changed; why the reading stopped;
+/// and whether all bytes were synced and read, up to the cursor.
 fn committed(
     alloc: Global,
     keeper: &mut Keeper<PackedArchive>,
@@ -69,7 +70,7 @@ fn committed(
     Some((cells, changed, stop, is_whole && offset == cursor.offset))
 }
 
-/// What is read back of a keeper that was just opened.
+/// The same for a keeper that was just opened.
 fn read_back<R: Wait>(rt: &R, alloc: Global) -> Option<(usize, usize, Stop, bool)> {
     let (mut keeper, _readers) = open(alloc, rt, minutes(alloc, 1, 3).ok()?, 1).ok()?;
     let found = committed(alloc, &mut keeper);
@@ -83,8 +84,8 @@ fn what_a_keeper_commits_is_read_back(rt: HostRuntime) {
     assert_eq!(rt; found, Some((4, 0, Stop::End, true)));
 }
 
-/// What a journal whose first call fails refuses, where the cursor is then, and how many series
-/// have changed.
+/// How a commit is refused by a journal whose first call fails, where the cursor then is, and how
+/// many series have changed.
 fn refused(
     alloc: Global,
     keeper: &mut Keeper<PackedArchive>,
@@ -97,7 +98,7 @@ fn refused(
     Some((fault, cursor, changed))
 }
 
-/// What is refused of a keeper that was just opened.
+/// This refusal for a keeper that was just opened.
 fn not_written<R: Wait>(rt: &R, alloc: Global) -> Option<(Option<ChangesFault>, Cursor, usize)> {
     let (mut keeper, _readers) = open(alloc, rt, minutes(alloc, 1, 3).ok()?, 1).ok()?;
     let found = refused(alloc, &mut keeper);

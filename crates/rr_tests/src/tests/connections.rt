@@ -1,19 +1,19 @@
-//! What is said over connections, without sockets: requests that are cut anywhere, refusals, and
-//! pieces of lines. The texts are those of RFC 9112.
+//! Connections without sockets: requests cut anywhere, refusals, and pieces of lines. The texts are
+//! those of RFC 9112.
 
 use rr_connection::{Found, HttpConnection, LineConnection, Reply, Request};
 use std::alloc::{AllocError, Global};
 use std::test::Fail;
 
-/// Three requests, one behind the other: with no body, with a length, and in chunks.
+/// Three requests, one after another: without a body, with a length, and in chunks.
 const REQUESTS: &[u8] = b"GET /fetch?a=1 HTTP/1.1\r\nHost: a\r\n\r\n\
     POST /write HTTP/1.1\r\nHost: a\r\nContent-Length: 5\r\nContent-Encoding: gzip\r\n\r\nm v=1\
     POST /write HTTP/1.1\r\nHost: a\r\nTransfer-Encoding: chunked\r\n\r\n2\r\nm \r\n3;x=y\r\nv=1\r\n0\r\n\r\n";
 
-/// What is given of them.
+/// What a connection gives of them.
 const GIVEN: &[u8] = b"GET /fetch?a=1 false ;POST /write true m v=1;POST /write false m v=1;";
 
-/// What they are answered, each by its body.
+/// The answers to them, each with the request's body.
 const ANSWERS: &[u8] = b"HTTP/1.1 200 OK\r\ncontent-length: 0\r\n\r\n\
     HTTP/1.1 200 OK\r\ncontent-length: 5\r\n\r\nm v=1\
     HTTP/1.1 200 OK\r\ncontent-length: 5\r\n\r\nm v=1";
@@ -23,7 +23,7 @@ fn connection(alloc: Global) -> HttpConnection {
     HttpConnection::new(alloc, http1::Limits::default(), 8)
 }
 
-/// Adds what is given of a request.
+/// Adds what a connection gives of a request.
 fn push_request(text: &mut Vec<u8>, request: &Request) -> Result<(), AllocError> {
     text.extend_from_slice(&request.method)?;
     text.push(b' ')?;
@@ -38,7 +38,7 @@ fn push_request(text: &mut Vec<u8>, request: &Request) -> Result<(), AllocError>
     Ok(())
 }
 
-/// Answers all requests that are there, each by its body, and adds what is given of them.
+/// Answers all requests that are there, each with its body, and adds what is given of them.
 fn answer_all(
     alloc: Global,
     connection: &mut HttpConnection,
@@ -60,7 +60,7 @@ fn answer_all(
     Ok(())
 }
 
-/// Whether the requests are given and answered where they come in two pieces.
+/// Whether the requests are given and answered if they come cut in two here.
 fn is_same_cut_at(alloc: Global, cut: usize) -> Result<bool, AllocError> {
     let mut connection = connection(alloc);
     let mut given = Vec::new(alloc);
@@ -83,7 +83,7 @@ fn requests_are_given_and_answered_however_they_are_cut(rt: HostRuntime) -> Resu
     Ok(())
 }
 
-/// The status with which a connection ends that received this, and nothing more if it ends there.
+/// The status with which a connection is over that received this, and then its end if `ends`.
 fn status_of(alloc: Global, text: &[u8], ends: bool) -> Result<Vec<u8>, AllocError> {
     let mut connection = connection(alloc);
     connection.receive(text)?;
@@ -137,7 +137,7 @@ fn a_refusal_has_the_status_of_its_reason(rt: HostRuntime) -> Result<(), Fail> {
     Ok(())
 }
 
-/// The pieces of lines that come as these two pieces, each behind a bar, the last one behind two.
+/// The pieces of lines that come cut in these two, each after a bar, the last one after two.
 fn pieces_of(alloc: Global, first: &[u8], second: &[u8]) -> Result<Vec<u8>, AllocError> {
     let mut connection = LineConnection::new(alloc);
     let mut pieces = Vec::new(alloc);

@@ -1,4 +1,4 @@
-//! Connections that fail in the middle, within a round and at a seat.
+//! Connections that fail midway, in a round and at a seat.
 
 use super::rounds::CONFIG;
 use rr_base::{Counted, Failing};
@@ -42,8 +42,8 @@ impl Read for Trickle {
     }
 }
 
-/// Connections of which each brings the text a byte at a time, until the read after some of them
-/// fails, and has room for some bytes of its answer.
+/// Connections that each bring the text a byte at a time until the read after `reads` of them
+/// fails, and have room for `room` bytes of their answer.
 #[derive(Drop)]
 struct Cut {
     alloc: Global,
@@ -111,7 +111,7 @@ fn goes_on<R: Wait>(
     Some(came.ok()? && lines.done == 1)
 }
 
-/// Whether a seat goes on after such a connection, to another one.
+/// Whether a seat goes on from such a connection to another one.
 fn serves_both(alloc: Global, reader: Reader<PackedArchive>, visits: Cut) -> bool {
     let mut seat = Seat {
         reader,
@@ -127,7 +127,8 @@ fn serves_both(alloc: Global, reader: Reader<PackedArchive>, visits: Cut) -> boo
     served.is_ok() && visits.done == 2
 }
 
-/// Whether both go on after connections that fail after so many reads, or have so much room.
+/// Whether both go on after connections that fail after this many reads, or have only this much
+/// room.
 fn go_on<R: Wait>(rt: &R, alloc: Global, reads: u64, room: usize) -> Option<bool> {
     let replica = minutes::<PackedArchive>(alloc, 2, 3).ok()?;
     let (mut keeper, mut readers) = open(alloc, rt, replica, 1).ok()?;

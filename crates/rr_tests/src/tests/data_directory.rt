@@ -1,4 +1,4 @@
-//! The files of a node's directory, on the disk.
+//! The files of a node's directory, on disk.
 use super::journal::start;
 use rr_base::{ArchiveSpec, Schema};
 use rr_directory::{Directory, FileName};
@@ -28,7 +28,7 @@ fn created<R: Files>(
     directory.create_journal(alloc, &start(), &schema).ok()
 }
 
-/// How many bytes a journal has synced, and has on the disk.
+/// How many bytes of a journal are synced, and how many are on disk.
 fn lens<R: Files>(
     alloc: Global,
     directory: &DataDirectory<'_, R>,
@@ -37,8 +37,8 @@ fn lens<R: Files>(
     Some((journal.synced_len(), directory.len(alloc, FIRST).ok()?))
 }
 
-/// These of a new journal, of one with a piece that isn't synced, and of the same synced; of one with
-/// much more, and of that cut back; and of one that is opened again with a torn tail.
+/// These counts of a new journal; with a piece that isn't synced, and once it is; with much more,
+/// and with that cut back; and opened again with a torn tail.
 fn journal_lens<R: Files<File = File>>(rt: &R, alloc: Global) -> Option<[(u64, u64); 6]> {
     let (directory, _lock) = DataDirectory::open(rt, alloc, "journal-data").ok()?;
     let mut journal = created(alloc, &directory)?;
@@ -77,7 +77,7 @@ fn a_journal_keeps_what_is_synced(rt: HostRuntime) {
     assert_eq!(rt; lens, Some(wanted));
 }
 
-/// Whether a second directory at the same path is in use.
+/// Whether opening a second directory at the same path is refused as in use.
 fn is_in_use<R: Files<File = File>>(rt: &R, alloc: Global) -> bool {
     matches!(
         DataDirectory::open(rt, alloc, "checkpoint-data"),
@@ -85,8 +85,9 @@ fn is_in_use<R: Files<File = File>>(rt: &R, alloc: Global) -> bool {
     )
 }
 
-/// How many files a directory has while a checkpoint is written, when it is finished, and when one is
-/// left half written and the directory is opened again; and whether it is in use before that.
+/// How many files a directory has while a checkpoint is written, once it is finished, and once
+/// another is left half written and the directory opened again; and whether it is in use before
+/// that.
 fn counts<R: Files<File = File>>(rt: &R, alloc: Global) -> Option<(usize, usize, usize, bool)> {
     let (directory, lock) = DataDirectory::open(rt, alloc, "checkpoint-data").ok()?;
     let mut output = directory.create_checkpoint(alloc, 5).ok()?;

@@ -14,13 +14,13 @@ use rr_fetch::parse_request;
 use rr_key::SeriesKey;
 use std::alloc::Global;
 
-/// What is asked: the averages of three minutes.
+/// The request: the averages of three minutes.
 const AVERAGES: &[u8] = b"AVERAGE 60 0 180 m v";
 
-/// The answer where nothing is known.
+/// The answer if nothing is known.
 const NOTHING: &[u8] = b"m v,0,U\nm v,60,U\nm v,120,U\n";
 
-/// The answer where 7 was put at a minute after the epoch.
+/// The answer if 7 was put one minute after the epoch.
 const SEVEN: &[u8] = b"m v,0,U\nm v,60,7\nm v,120,U\n";
 
 /// The key `m v`.
@@ -36,7 +36,7 @@ fn fetched<A: Cells>(alloc: Global, reader: &mut Reader<A>, words: &[u8]) -> Opt
     reader.fetch(alloc, &request).ok()
 }
 
-/// Whether a reader answers the averages by this text.
+/// Whether a reader answers the averages with this text.
 fn answers<A: Cells>(alloc: Global, reader: &mut Reader<A>, text: &[u8]) -> bool
     ensures { reader.new.desk ≡ reader.old.desk }
 {

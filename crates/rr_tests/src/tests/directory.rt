@@ -1,6 +1,6 @@
 //! A replica from the files of a directory.
 //!
-//! The bytes are those that a script in another language makes of the format.
+//! The bytes were made from the format by a script in another language.
 use super::journal::schema;
 use rr_archive::PlainArchive;
 use rr_base::Origin;
@@ -11,7 +11,7 @@ use rr_fakes::journals::{HEADER, HEADER_101, RECORDS, file};
 use rr_replica::Replica;
 use std::alloc::Global;
 
-/// The header of a file that begins behind all four, and of the checkpoint of them.
+/// The header of a file that begins after all four records, and of their checkpoint.
 const HEADER_167: [u8; 62] = [
     0x52, 0x52, 0x4a, 0x4e, 0x01, 0x00, 0x00, 0x0e, 0x00, 0x00, 0x00, 0x3c, 0x01, 0x01, 0x00, 0x00,
     0x00, 0x03, 0x00, 0x00, 0x00, 0x01, 0x00, 0x01, 0x02, 0x03, 0x04, 0x05, 0x06, 0x07, 0x08, 0x09,
@@ -19,7 +19,7 @@ const HEADER_167: [u8; 62] = [
     0xf2, 0xce, 0x53, 0x71, 0x55, 0x65, 0x56, 0xe6, 0x94, 0x60, 0xcd, 0xb4, 0xf0, 0x1a,
 ];
 
-/// The records of that checkpoint: the six cells, and its end.
+/// The records of that checkpoint: the six cells and its end.
 const CHECKPOINT: [u8; 107] = [
     0x00, 0x00, 0x00, 0x49, 0x81, 0x00, 0x09, 0x63, 0x70, 0x75, 0x20, 0x76, 0x61, 0x6c, 0x75, 0x65,
     0x00, 0x00, 0x00, 0x00, 0x20, 0x06, 0x80, 0xb0, 0x9d, 0xc2, 0xdf, 0x01, 0x83, 0x0a, 0xc8, 0x01,
@@ -30,16 +30,16 @@ const CHECKPOINT: [u8; 107] = [
     0x00, 0x00, 0x06, 0x1a, 0x13, 0xe5, 0xaf, 0x18, 0xf0, 0xb5, 0x0b,
 ];
 
-/// A record behind all four: the origin 1002.
+/// A record after all four: the origin 1002.
 const ORIGIN_1002: [u8; 15] = [
     0x00, 0x00, 0x00, 0x02, 0x82, 0x03, 0xea, 0x9c, 0x47, 0x37, 0x86, 0xe5, 0x51, 0x1f, 0x69,
 ];
 
-/// What is told of files: how many cells are recovered, the last origin, where the journal ends and
+/// What a recovery tells: how many cells are recovered, the last origin, where the journal ends and
 /// how many bytes are torn; or which file is refused, and why.
 type Told = Result<(usize, Option<Origin>, Option<u64>, u64), Refusal>;
 
-/// What comes of a recovery under the origin 9.
+/// What a recovery of these files under the origin 9 tells.
 fn told(alloc: Global, files: &[MemoryFile<'_>]) -> Option<Told> {
     let schema = schema(alloc)?;
     let origin = Origin::new(9).ok()?;
@@ -70,7 +70,7 @@ fn journal(offset: u64, bytes: &[u8]) -> MemoryFile<'_> {
     }
 }
 
-/// Texts, and the name that each is, if it is one.
+/// Texts, and the name that each spells, if any.
 const NAMES: [(&[u8], Option<FileName>); 8] = [
     (
         b"journal-00000000000000000167.rrj",
@@ -123,7 +123,7 @@ fn a_checkpoint_stands_for_the_journal_before_it(rt: HostRuntime) {
     assert_eq!(rt; told(rt.alloc(), &files), Some(wanted));
 }
 
-/// What is told where of the first file some bytes are cut off, and of the second others.
+/// What is told if this many bytes are cut off the first file, and this many off the second.
 fn told_of_cut(alloc: Global, first: usize, second: usize) -> Option<Told> {
     let all = file(alloc, &HEADER, &RECORDS[..101])?;
     let rest = file(alloc, &HEADER_101, &RECORDS[101..])?;

@@ -15,11 +15,11 @@ use std::alloc::Global;
 use std::sync::Wait;
 use std::test::Fail;
 
-/// What failed: the last peer, and the save.
+/// What failed: the last peer that did, and the save.
 type Told = (Option<(usize, NodeFault)>, Option<SaveFault>);
 
-/// What failed, by the calls of a shelf, unless it was told of lines that were served, of cells, or
-/// of a writer that came back.
+/// What failed, by the calls of a shelf; none if it was told of served lines, of cells, or of a
+/// writer that came back.
 fn told(calls: &[ShelfNote]) -> Option<Told> {
     let mut peer = None;
     let mut save = None;
@@ -36,8 +36,8 @@ fn told(calls: &[ShelfNote]) -> Option<Told> {
     Some((peer, save))
 }
 
-/// Keeps a round of a new desk with these connections and this shelf. Its second peer sends no
-/// frame. Answers whether a connection came.
+/// Keeps a round of a new desk with these connections and this shelf. What its second peer sends is
+/// no frame. Returns whether a connection came.
 fn kept<R: Wait>(
     rt: &R,
     alloc: Global,
@@ -71,8 +71,8 @@ fn kept<R: Wait>(
 /// The fault of the second peer; the first one can't be reached.
 const PEER: Option<(usize, NodeFault)> = Some((2, NodeFault::Session(GossipFault::FrameTooLong)));
 
-/// What failed in a round after a connection that failed, with a shelf that opens this, and how
-/// often the shelf was called.
+/// Whether a round goes on after a failed connection, with a shelf that opens these, what failed in
+/// it, and how often the shelf was called.
 fn gone_on<R: Wait>(
     rt: &R,
     alloc: Global,
@@ -84,7 +84,7 @@ fn gone_on<R: Wait>(
     Some((came, told(calls)?, calls.len()))
 }
 
-/// Whether nothing is done where no connection will come.
+/// Whether nothing is done if no connection will come.
 fn is_over<R: Wait>(rt: &R, alloc: Global) -> Option<bool> {
     let mut shelf = PreparedShelf::new(alloc, &[], 0).ok()?;
     let came = kept(rt, alloc, &[], &mut shelf)?;

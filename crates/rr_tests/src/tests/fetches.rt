@@ -9,18 +9,18 @@ use rr_packed::PackedArchive;
 use std::alloc::Global;
 use std::test::Fail;
 
-/// Two minutes are asked for, and then what no function is named so.
+/// A request for two minutes, and one for a function that doesn't exist.
 const REQUESTS: &[u8] = b"fetch LAST 60 0 120 m v\nfetch MEDIAN 60 0 60 m v";
 
-/// The answers where nothing is known.
+/// The answers if nothing is known.
 const ANSWERS: &[u8] = b"m v,0,U\nm v,60,U\n\nerror BadCf\n\n";
 
-/// The first frame of one that pulls, and the length of a frame of 4 GB.
+/// The first frame of a side that pulls, and the length of a frame of 4 GB.
 const HUGE: [u8; 23] = [
     0, 0, 0, 0x0f, 1, 0, 0, 0, 0x3c, 1, 1, 0, 0, 0, 3, 0, 0, 0, 1, 0xff, 0xff, 0xff, 0xff,
 ];
 
-/// Random bytes that begin as a session does.
+/// Random bytes that begin like a session.
 const NOISE: [u8; 12] = [0, 0, 0, 6, 0x9c, 0x41, 0xe3, 0x0a, 0x77, 0xd2, 0x18, 0xb5];
 
 /// What a seat writes to the last of six connections. The first five fail, close at once, or send

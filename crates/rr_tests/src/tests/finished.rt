@@ -1,4 +1,4 @@
-//! Archives whose blocks were finished answer as those do that have their rows as they came.
+//! Archives with finished blocks answer like those that keep their rows as they came.
 use rr_archive::{Cells, PlainArchive};
 use rr_base::Origin;
 use rr_contrib::Contribution;
@@ -8,9 +8,9 @@ use std::alloc::Global;
 /// How many slots have a sample.
 const SLOTS: u32 = 200;
 
-/// An archive with a sample of an origin in each slot, which made its finished rows ready to be
-/// shared, twice, and then took two of a second origin in slots among them: one in a block that is
-/// packed alone, and one in the block that was finished last.
+/// An archive with a sample of one origin in each slot, which twice made its finished rows ready to
+/// be shared, and then took two of a second origin in slots among them: one in a block that is only
+/// packed, and one in the block that was finished last.
 fn filled<A: Cells>(alloc: Global) -> Option<A> {
     let (first, second) = (Origin::new(1).ok()?, Origin::new(2).ok()?);
     let mut archive = A::new(alloc, 300);
@@ -31,12 +31,12 @@ fn filled<A: Cells>(alloc: Global) -> Option<A> {
     Some(archive)
 }
 
-/// A number that tells values in an order from others and from other orders.
+/// A number that tells values in their order from other values and other orders.
 fn mixed(so_far: i64, value: i64) -> i64 {
     so_far.wrapping_mul(31).wrapping_add(value)
 }
 
-/// The last values of all cells, as a walk finds them one after the other.
+/// The last values of all cells, as a walk finds them one after another.
 fn walked<A: Cells>(archive: &A) -> i64 {
     let mut all = 0;
     let mut next = archive.cell_at(0);
@@ -50,7 +50,7 @@ fn walked<A: Cells>(archive: &A) -> i64 {
     all
 }
 
-/// The last values of all cells, as the rows have them that are read one by one.
+/// The last values of all cells, from rows read one by one.
 fn read_by_rows<A: Cells>(alloc: Global, archive: &A) -> Option<i64> {
     let mut all = 0;
     let mut row = Vec::new(alloc);
@@ -63,7 +63,7 @@ fn read_by_rows<A: Cells>(alloc: Global, archive: &A) -> Option<i64> {
     Some(all)
 }
 
-/// The last values of all cells, as runs of slots have them.
+/// The last values of all cells, from runs of slots.
 fn read_by_runs<A: Cells>(alloc: Global, archive: &A) -> Option<i64> {
     let mut all = 0;
     let mut slot = 0;
@@ -80,7 +80,7 @@ fn read_by_runs<A: Cells>(alloc: Global, archive: &A) -> Option<i64> {
     Some(all)
 }
 
-/// How many cells there are, the last value of one by its number, and all that is read.
+/// How many cells there are, the last value of one found by its number, and all that is read.
 fn answers<A: Cells>(alloc: Global) -> Option<(usize, Option<i64>, [i64; 3])> {
     let archive: A = filled(alloc)?;
     let last = archive

@@ -1,12 +1,12 @@
-//! A peer, followed by what it answers.
+//! Following a peer by its answers.
 use super::journal::{schema, start};
 use rr_cells::Cell;
 use rr_fakes::journals::{HEADER, RECORDS};
 use rr_replication::{Following, Next, PartFault, PeerAnswer, PeerConnection, PeerFault};
 use std::alloc::Global;
 
-/// What an answer with a status and a body comes to: what was asked for, up to which offset the journal
-/// is read if that is said, and how many cells came.
+/// What becomes of an answer with a status and a body: what was asked for, up to which offset the
+/// journal is read, if that is told, and how many cells came.
 fn step(
     alloc: Global,
     following: &mut Following,
@@ -115,7 +115,7 @@ fn what_the_journal_lacks_is_taken_from_the_checkpoint(rt: HostRuntime) {
     assert_eq!(rt; again, Some((Err(PeerFault::Gone), 0)));
 }
 
-/// The status, the end and the body of what is answered to a request by these bytes.
+/// The status, the end and the length of the body when these bytes answer a request.
 fn answered(alloc: Global, input: &[u8]) -> Result<(u16, Option<u64>, usize), PeerFault> {
     let mut connection = PeerConnection::new(alloc, input, Vec::new(alloc));
     let answer = connection.ask(b"a:1", b"/journal?from=0")?;

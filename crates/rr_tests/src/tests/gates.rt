@@ -7,7 +7,7 @@ use std::sync::atomic::{AtomicBool, Ordering};
 use std::thread::sleep;
 use std::time::Duration;
 
-/// How often is looked for a flag, with a microsecond between two looks.
+/// How often a flag is looked at, with a microsecond between two looks.
 const LOOKS: u32 = 100_000;
 
 /// A flag that stays raised.
@@ -26,7 +26,7 @@ impl Signal {
         })
     }
 
-    /// The same flag, for one more owner.
+    /// The same flag, for another owner.
     pub(crate) fn share(&self) -> Result<Signal, AllocError> {
         Ok(Signal {
             clock: self.clock,
@@ -39,7 +39,7 @@ impl Signal {
         self.is_raised.store(true, Ordering::SeqCst);
     }
 
-    /// Waits until it is raised, and answers whether it was in time.
+    /// Waits until it is raised, and returns whether it was in time.
     fn wait(&self) -> bool {
         for _ in 0..LOOKS {
             if self.is_raised.load(Ordering::SeqCst) {
@@ -51,7 +51,8 @@ impl Signal {
     }
 }
 
-/// A gate that keeps a reader in its copy until a flag is raised, and is shut if it isn't in time.
+/// A gate that keeps a reader in its copy until a flag is raised, and is shut if that isn't in
+/// time.
 #[derive(Drop)]
 pub(crate) struct WaitsFor {
     pub(crate) signal: Signal,
@@ -90,7 +91,7 @@ impl Gate for Raises {
 }
 
 /// A gate that says that its reader is in its copy, keeps it there until another says the same, and
-/// is shut if it doesn't in time.
+/// is shut if that isn't in time.
 #[derive(Drop)]
 pub(crate) struct Meets {
     pub(crate) own: Signal,

@@ -1,6 +1,6 @@
 //! A journal's bytes, written and read, cut and changed.
 //!
-//! The bytes are those that a script in another language makes of the format.
+//! The bytes were made from the format by a script in another language.
 use rr_base::{ArchiveSpec, Counted, Origin, Schema};
 use rr_fakes::journals::{HEADER, RECORDS};
 use rr_journal::{
@@ -19,7 +19,7 @@ const PACKED: [u8; 32] = [
 /// Where each record ends.
 const ENDS: [usize; 4] = [15, 101, 146, 167];
 
-/// Three rows of a minute.
+/// A schema of three one-minute rows.
 pub(super) fn schema(alloc: Global) -> Option<Schema> {
     let archive = ArchiveSpec {
         steps: 1,
@@ -35,7 +35,7 @@ pub(super) fn start() -> Cursor {
     Cursor::start([0, 1, 2, 3, 4, 5, 6, 7, 8, 9, 10, 11, 12, 13, 14, 15])
 }
 
-/// A record of the packed cells and of a group without a cell.
+/// A record of the packed cells and of a group without cells.
 fn cells(alloc: Global) -> Option<Record> {
     let mut groups = Vec::new(alloc);
     groups
@@ -57,7 +57,7 @@ fn two(alloc: Global, first: &Record, second: &Record) -> Option<Vec<RawRecord>>
     Some(records)
 }
 
-/// The bytes of a journal that was written in two batches.
+/// The bytes of a journal written in two batches.
 fn written(alloc: Global, first: &[RawRecord], second: &[RawRecord]) -> Option<Vec<u8>> {
     if !fits_between_syncs(first) || !fits_between_syncs(second) {
         return None;
@@ -90,7 +90,7 @@ fn all_bytes(alloc: Global) -> Option<Vec<u8>> {
     written(alloc, &first, &second)
 }
 
-/// The bytes that the format asks for.
+/// The bytes that the format requires.
 fn wanted(alloc: Global) -> Option<Vec<u8>> {
     let mut bytes = Vec::from_slice(alloc, &HEADER).ok()?;
     bytes.extend_from_slice(&RECORDS).ok()?;
@@ -102,7 +102,7 @@ fn a_journal_is_written_as_the_format_says(rt: HostRuntime) {
     assert_eq!(rt; all_bytes(rt.alloc()), wanted(rt.alloc()));
 }
 
-/// How many records are read, each of which means something, and why no more.
+/// How many records are read, each of which means something, and why reading stops.
 fn read(alloc: Global, bytes: &[u8]) -> Result<(usize, Option<Stop>), JournalFault> {
     let Some(schema) = schema(alloc) else {
         return Err(JournalFault::Memory);
@@ -120,7 +120,7 @@ fn read(alloc: Global, bytes: &[u8]) -> Result<(usize, Option<Stop>), JournalFau
     Ok((10, None))
 }
 
-/// How many records end within so many bytes of records.
+/// How many records end within this many bytes of records.
 fn ended_within(len: usize) -> usize {
     let mut count = 0;
     for end in 0..ENDS.len() {
@@ -131,12 +131,12 @@ fn ended_within(len: usize) -> usize {
     count
 }
 
-/// Whether so many bytes end a record, or none.
+/// Whether this many bytes end with a whole record, or are none.
 fn is_end(len: usize) -> bool {
     len == 0 || ENDS.as_slice().contains(&len)
 }
 
-/// Whether a prefix of so many bytes is read as it should be.
+/// Whether a prefix of this many bytes is read as it should be.
 fn is_read(alloc: Global, bytes: &[u8], len: usize) -> bool {
     if len > bytes.len() {
         return false;
@@ -160,8 +160,8 @@ fn each_prefix_is_read_up_to_its_last_whole_record(rt: HostRuntime) {
     assert_eq!(rt; right, 230);
 }
 
-/// Whether a change of the byte at a place is seen: in the header it is refused, in a record the
-/// reading stops before it.
+/// Whether a change of the byte at a place is seen: in the header it is refused; in a record,
+/// reading stops before that record.
 fn is_seen(alloc: Global, bytes: &[u8], at: usize) -> bool {
     let Ok(mut changed) = Vec::from_slice(alloc, bytes) else {
         return false;

@@ -1,11 +1,11 @@
-//! Keys made of names, and names with their escapes.
+//! Keys made from names, and names with their escapes.
 
 use rr_key::{Class, KeyFault, SeriesKey, escape, unescape};
 use rr_text::limits::MAX_KEY_TEXT;
 use std::alloc::{AllocError, Global};
 use std::test::Fail;
 
-/// The tags of names, the key and the value of each.
+/// The tags in a list of names: the key and the value of each.
 fn tags_of<'a>(alloc: Global, names: &[&'a str]) -> Result<Vec<(&'a [u8], &'a [u8])>, AllocError> {
     let mut tags: Vec<(&'a [u8], &'a [u8])> = Vec::new(alloc);
     for tag in names.chunks(2) {
@@ -24,8 +24,8 @@ fn text_of(alloc: Global, made: Result<SeriesKey, KeyFault>) -> Result<Vec<u8>, 
     }
 }
 
-/// The text of the key of a measurement, the key and the value of each tag, and a field, or the
-/// name of the fault.
+/// The text of the key of these names, a measurement, the key and the value of each tag, and a
+/// field; or the name of the fault.
 fn text_of_names(alloc: Global, names: &[&str]) -> Result<Vec<u8>, AllocError> {
     let [measurement, rest @ .., field] = names else {
         return Ok(Vec::new(alloc));
@@ -35,14 +35,14 @@ fn text_of_names(alloc: Global, names: &[&str]) -> Result<Vec<u8>, AllocError> {
     text_of(alloc, made)
 }
 
-/// The same of names with a `|` between two of them.
+/// The same for names with `|` between them.
 fn spelled(alloc: Global, names: &str) -> Result<Vec<u8>, AllocError> {
     let names: Vec<&str> = names.split('|').collect(alloc)?;
     text_of_names(alloc, &names)
 }
 
-/// Names and the text of their key, or why they make none, with a ` -> ` between the two and a `;`
-/// after them.
+/// Names and the text of their key, or why they make none, with ` -> ` between the two, and `;`
+/// between such pairs.
 const TEXTS: &str = "m|b|2|a|1|v -> m,a=1,b=2 v;\
     a b\\,c|v -> a\\ b\\\\,c v;\
     a,b|k=|=x y|f, -> a\\,b,k\\==\\=x\\ y f\\,;\
@@ -65,7 +65,8 @@ const TEXTS: &str = "m|b|2|a|1|v -> m,a=1,b=2 v;\
     m|A|1|B|1|C|1|D|1|E|1|F|1|G|1|H|1|I|1|J|1|K|1|L|1|M|1|N|1|O|1|P|1|Q|1|R|1|S|1|T|1|U|1|V|1|\
     W|1|X|1|Y|1|Z|1|a|1|b|1|c|1|d|1|e|1|f|1|g|1|A|1|v -> DuplicateTag";
 
-// The tags of a text are by the bytes of the names, and not of their escapes: a space is below '!'.
+// The tags of a text are ordered by the bytes of the names, not of their escapes: a space is below
+// '!'.
 #[test]
 fn names_make_one_text(rt: HostRuntime) -> Result<(), Fail> {
     for line in TEXTS.split(';') {
@@ -117,7 +118,7 @@ fn a_name_is_escaped(rt: HostRuntime) -> Result<(), Fail> {
     Ok(())
 }
 
-/// Takes what several threads may hold.
+/// Takes a value that several threads may hold.
 fn shared<T: Send + Sync>(value: T) -> T {
     value
 }

@@ -1,11 +1,11 @@
-//! Lines that are read by the key texts of their series.
+//! Lines read by the key texts of their series.
 
 use rr_key::SeriesKey;
 use rr_line::{KnownLine, LastTime, Precision, read_known};
 use std::alloc::Global;
 use std::test::Fail;
 
-/// Up to four numbers that were read one after the other, the last one at the end.
+/// Up to four numbers read one after another, the last one at the end.
 type Numbers = [i64; 4];
 
 /// Adds a number at the end.
@@ -14,7 +14,7 @@ fn push(numbers: &mut Numbers, number: i64) {
     *numbers = [second, third, last, number];
 }
 
-/// What is to be read, if a text says that: numbers, or nothing where it is `-`.
+/// What a text says is to be read, if it does: numbers, or nothing if it is `-`.
 fn wanted_of(text: &str) -> Option<Option<Numbers>> {
     if text == "-" {
         return Some(None);
@@ -26,14 +26,14 @@ fn wanted_of(text: &str) -> Option<Option<Numbers>> {
     Some(Some(numbers))
 }
 
-/// What is read of a line by a key.
+/// What is read from a line by a key.
 fn known(line: &str, key: &SeriesKey, last: &mut LastTime) -> Option<Numbers> {
     let (value, time) = read_known(line.as_bytes(), key, Precision::S, last)?;
     Some([0, 0, value, time.unwrap_or(-1)])
 }
 
-/// A line, the key text that is expected, and what is read: the value and the time, -1 where there
-/// is none, or `-`. There is a `|` between two of them.
+/// Lines, each with the expected key text and what is read: the value and the time, -1 if there is
+/// none, or `-`. The three have `|` between them.
 const LINES: &str = "m,a=1 v=5i 7|m,a=1 v|5 7000000000
 m,a=1 v=-6i 7|m,a=1 v|-6 7000000000
   m,a=1 v=007i  7 |m,a=1 v|7 7000000000
@@ -75,7 +75,7 @@ fn lines_are_known_by_their_key_texts(rt: HostRuntime) -> Result<(), Fail> {
     Ok(())
 }
 
-/// The keys of texts with a `|` between two.
+/// The keys of texts with `|` between them.
 fn keys_of(alloc: Global, texts: &str) -> Option<Vec<SeriesKey>> {
     let mut keys = Vec::new(alloc);
     for text in texts.split('|') {
@@ -85,7 +85,7 @@ fn keys_of(alloc: Global, texts: &str) -> Option<Vec<SeriesKey>> {
     Some(keys)
 }
 
-/// What is read of a line by some keys, one for each field.
+/// What is read from a line by some keys, one for each field.
 fn known_fields(line: &str, keys: &[SeriesKey], last: &mut LastTime) -> Option<Numbers> {
     let [first, others @ ..] = keys else {
         return None;
@@ -103,7 +103,7 @@ fn known_fields(line: &str, keys: &[SeriesKey], last: &mut LastTime) -> Option<N
     Some(numbers)
 }
 
-/// A line, the key texts that are expected, and what is read: the values and the time, or `-`.
+/// Lines, each with the expected key texts and what is read: the values and the time, or `-`.
 const MANY: &str = "m,a=1 u=1i,v=2i,w=-3i 7|m,a=1 u|m,a=1 v|m,a=1 w|1 2 -3 7000000000
 m,a=1 u=1i,v=2i|m,a=1 u|m,a=1 v|1 2 -1
 m,a=1 u=1i 7|m,a=1 u|1 7000000000

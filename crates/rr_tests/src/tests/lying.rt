@@ -1,4 +1,4 @@
-//! Cells of a peer that lies: other contents under an origin and a number that were used.
+//! Cells of a peer that lies: other contents under an origin and a number already used.
 ghost use Rattle.std.specs.Prelude.{◌≡◌, OnOk};
 ghost use Rattle.rr_cells.specs.CellBounds.{IsCellOf};
 ghost use Rattle.rr_cells.specs.Listing.{owned_cell};
@@ -15,7 +15,7 @@ use rr_replica::Replica;
 use rr_replica::laws::join_keeps_the_live;
 use std::alloc::{AllocError, Global};
 
-/// Joins two cells in one order into a replica, and in the other into one that holds the same. By
+/// Joins two cells into a replica in one order, and into one that holds the same in the other. By
 /// the law of joins both then hold the same cells, whoever sent them.
 fn join_either_way<A: Cells>(
     one: &mut Replica<A>,
@@ -29,7 +29,7 @@ fn join_either_way<A: Cells>(
     ensures { OnOk result (one.new.cells ≡ other.new.cells) }
 {
     join_keeps_the_live();
-    // The proof needs that the schema is within its limits, which this ensures.
+    // The proof needs the schema to be within its limits, which this ensures.
     let _schema = one.schema();
     one.join_cell(first)?;
     one.join_cell(second)?;
@@ -64,7 +64,7 @@ fn first_value(replica: &Replica<PackedArchive>) -> i64 {
     cell.contribution.last_value
 }
 
-/// What two replicas hold of two cells, each after it joined them in its own order.
+/// What two replicas hold of two cells after each joined them in its own order.
 fn left_of(alloc: Global, first: &Cell, second: &Cell) -> Option<(i64, i64)> {
     let mut one: Replica<PackedArchive> = minutes(alloc, 1, 3).ok()?;
     let mut other = one.copy(alloc).ok()?;
@@ -73,7 +73,7 @@ fn left_of(alloc: Global, first: &Cell, second: &Cell) -> Option<(i64, i64)> {
     are_joined.then_some(left)
 }
 
-/// What origin 2 says under number 1 that it wrote at a minute after the epoch.
+/// The cell that claims that origin 2 wrote a value one minute after the epoch, under number 1.
 fn told(alloc: Global, value: i64) -> Option<Cell> {
     let contribution = Contribution::first(1, 0, MINUTE, value);
     Some(Cell {

@@ -1,4 +1,4 @@
-//! Packed cells: bytes that another program made, and what is read of them.
+//! Packed cells: bytes that another program made, and what is read from them.
 
 ghost use Rattle.rr_contrib.specs.Contributions.{IsNumbered};
 
@@ -16,7 +16,7 @@ const TWO_HOSTS: [u8; 32] = [
     0x09, 0xe8, 0x07, 0x02, 0x01, 0x02, 0x0e, 0x03, 0x02, 0x11, 0x02, 0xe1, 0x07, 0x01, 0x02, 0x00,
 ];
 
-/// A cell of one sample, so long after its slot of a minute begins.
+/// A cell of one sample, `after` nanoseconds after its one-minute slot begins.
 fn cell(slot: i64, origin: Origin, number: u64, after: i64, value: i64) -> (i64, Entry)
     requires { IsNumbered number 0 }
 {
@@ -45,7 +45,7 @@ fn six_cells(alloc: Global) -> Result<Vec<(i64, Entry)>, Fail> {
     Ok(Vec::from_array(alloc, cells)?)
 }
 
-/// The packed cells, of which there are at most six.
+/// The packed cells, if there are at most six.
 fn packed(alloc: Global, cells: &[(i64, Entry)]) -> Option<Vec<u8>> {
     if cells.len() > 6 {
         return None;
@@ -74,7 +74,7 @@ fn walked(bytes: &[u8]) -> Option<usize> {
     None
 }
 
-/// The schema of an archive of a row a minute.
+/// The schema of an archive of one-minute rows.
 fn schema(alloc: Global) -> Result<Schema, Fail> {
     let archive = ArchiveSpec {
         steps: 1,
@@ -101,8 +101,8 @@ fn packed_cells_are_walked_and_checked(rt: HostRuntime) -> Result<(), Fail> {
     Ok(())
 }
 
-/// Bytes that are refused, each with the name of why: a number with a byte too many, a place that
-/// the archive lacks, one cell twice, origin 0, and a byte behind the last cell.
+/// Bytes that are refused, each with the name of its fault: a number with a byte too many, a place
+/// that the archive lacks, one cell twice, origin 0, and a byte after the last cell.
 const REFUSED: [(&[u8], &str); 5] = [
     (
         &[0x81, 0x00, 0x00, 0x83, 0x0a, 0x0e, 0x02, 0x01, 0x02],

@@ -11,15 +11,15 @@ use std::alloc::{AllocError, Global};
 use std::cell;
 use std::test::Fail;
 
-/// What a target asks for, which gets no answer.
+/// What a target that gets no answer asks for.
 fn asked(alloc: Global, target: &mut Replica<PackedArchive>) -> Vec<u8> {
     let mut output = Counted::new(Vec::new(alloc));
-    // The pull is ended, since no answer comes.
+    // The pull fails, since no answer comes.
     let _ended = pull(alloc, &mut Counted::new([].as_slice()), &mut output, target);
     output.into_inner()
 }
 
-/// What a source answers to what a target asks for.
+/// A source's answer to what a target asks for.
 fn given(
     alloc: Global,
     asked: &[u8],
@@ -30,7 +30,7 @@ fn given(
     Ok(output.into_inner())
 }
 
-/// A target takes an answer.
+/// Has a target take an answer.
 fn take(
     alloc: Global,
     answer: &[u8],
@@ -40,15 +40,15 @@ fn take(
     pull(alloc, &mut Counted::new(answer), &mut output, target)
 }
 
-/// Whether two pages of 256 cells and one of 88 are in an answer. A cell has 96 bytes, and a frame
-/// 26 besides those of its cells, whose number ends its head.
+/// Whether an answer has two pages of 256 cells and one of 88. A cell takes 96 bytes, and a frame
+/// 26 more, its head, which ends with the number of its cells.
 fn are_pages(reply: &[u8]) -> bool {
     reply.get(24..26) == Some([1, 0].as_slice())
         && reply.get(24_626..24_628) == Some([1, 0].as_slice())
         && reply.get(49_228..49_230) == Some([0, 88].as_slice())
 }
 
-/// What a source answers to a target, which takes it.
+/// A source's answer to a target, which takes it.
 fn passed(
     alloc: Global,
     source: &mut Replica<PackedArchive>,
@@ -59,8 +59,7 @@ fn passed(
     Ok(reply)
 }
 
-/// What a source of 600 cells answers to a target that holds nothing, and how many cells the target
-/// has then.
+/// The answer of a source of 600 cells to an empty target, and how many cells the target then has.
 fn exchanged(alloc: Global) -> Option<(Vec<u8>, usize)> {
     let mut source = filled(alloc, 1, 600, 600).ok()?;
     let mut target = filled(alloc, 2, 600, 0).ok()?;
@@ -78,7 +77,7 @@ fn a_long_answer_comes_in_pages(rt: HostRuntime) -> Result<(), Fail> {
     Ok(())
 }
 
-/// A target that counts the names that it has given.
+/// A target that counts the names it has given.
 #[derive(Drop)]
 struct Watched {
     replica: Replica<PackedArchive>,
@@ -134,7 +133,7 @@ fn names_are_asked_for_as_they_are_written(rt: HostRuntime) -> Result<(), Fail> 
         replica: filled(rt.alloc(), 2, 600, 600)?,
         given: cell::Cell::new(0),
     };
-    // Room for the schema's frame alone.
+    // Room for the schema's frame only.
     let mut room = [0u8; 19];
     let fault = pull(
         rt.alloc(),

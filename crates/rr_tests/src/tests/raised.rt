@@ -1,4 +1,4 @@
-//! A replica under a schema that has one archive more.
+//! A replica under a schema with one more archive.
 use rr_base::{ArchiveSpec, Origin, Schema};
 use rr_directory::join_raised;
 use rr_key::SeriesKey;
@@ -21,7 +21,8 @@ const FIVE: ArchiveSpec = ArchiveSpec {
     den: 1,
 };
 
-/// How many cells a replica has, and the archive and the slot of the first; -1 where there is none.
+/// How many cells a replica has, and the archive and the slot of the first; slot -1 if there is
+/// none.
 fn first_cell(replica: &Replica<PackedArchive>) -> (usize, u8, i64) {
     match replica.cell_at(0) {
         Some(cell) => (replica.cell_count(), cell.archive, cell.slot),
@@ -29,8 +30,8 @@ fn first_cell(replica: &Replica<PackedArchive>) -> (usize, u8, i64) {
     }
 }
 
-/// The first cell of a replica of rows of five minutes, with a sample ten minutes past the epoch, and
-/// that of one which the former's cells were joined to and that has minutes too.
+/// The first cell of a replica of five-minute rows with a sample ten minutes after the epoch, and
+/// that of one that has one-minute rows too, into which the former's cells were joined.
 fn raised(alloc: Global) -> Result<[(usize, u8, i64); 2], Fail> {
     let older = Schema::new(alloc, 60, &[FIVE])?;
     let schema = Schema::new(alloc, 60, &[MINUTES, FIVE])?;

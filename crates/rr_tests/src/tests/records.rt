@@ -1,4 +1,4 @@
-//! Records of CSV, and refusals.
+//! CSV records, and refusals.
 
 use rr_fetch::push_plain;
 use rr_text::refusal::push_refusal;

@@ -8,8 +8,8 @@ use rr_recovery::{Found, RecoveryFault, last_origin, replay};
 use rr_replica::Replica;
 use std::alloc::Global;
 
-/// What comes of a replay into a replica of an origin: how many cells it has then, why the replay
-/// ended, behind how many bytes, and whether as many cells were read as the journal's end says.
+/// The result of a replay into a replica of an origin: how many cells it then has, why the replay
+/// ended, after how many bytes, and whether as many cells were read as the journal's end says.
 fn replayed(alloc: Global, origin: u16) -> Option<(usize, Result<Stop, RecoveryFault>, u64, bool)> {
     let schema = schema(alloc)?;
     let origin = Origin::new(origin).ok()?;
@@ -47,7 +47,7 @@ fn an_origin_of_the_journal_is_refused(rt: HostRuntime) {
     assert_eq!(rt; (of_a_cell, of_a_record), (used, used));
 }
 
-/// The origin of the last record of one, and why the reading ended.
+/// The origin of the last record of one, and why reading stopped.
 fn last(alloc: Global) -> Option<(Stop, Option<Origin>)> {
     let schema = schema(alloc)?;
     let mut input = Counted::new(RECORDS.as_slice());

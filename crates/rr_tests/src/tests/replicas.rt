@@ -11,7 +11,7 @@ use rr_ring::RingArchive;
 use std::alloc::Global;
 use std::test::Fail;
 
-/// The slot of the cell with a number; -1 where there is none.
+/// The slot of the cell with this number; -1 if there is none.
 fn slot_of<A: Cells>(replica: &Replica<A>, i: usize) -> i64 {
     let Some(cell) = replica.cell_at(i) else {
         return -1;
@@ -19,8 +19,7 @@ fn slot_of<A: Cells>(replica: &Replica<A>, i: usize) -> i64 {
     cell.slot
 }
 
-/// How many cells a million samples leave, a minute apart, and the slots of the first and the
-/// tenth.
+/// How many cells a million samples a minute apart leave, and the slots of the first and the tenth.
 fn left_of_a_million<A: Cells>(alloc: Global) -> Result<(usize, i64, i64), Fail> {
     let replica = filled::<A>(alloc, 1, 10, 1_000_000)?;
     Ok((
@@ -39,7 +38,7 @@ fn a_million_samples_leave_ten_rows(rt: HostRuntime) -> Result<(), Fail> {
     Ok(())
 }
 
-/// How many cells an archive of a series has, where a replica of one sample of `m v` lends it.
+/// How many cells an archive of a series has, if a replica of one sample of `m v` lends it.
 fn lent(alloc: Global, key: &[u8], archive: u8) -> Result<Option<usize>, Fail> {
     let replica = one_sample::<PackedArchive>(alloc, 1)?;
     let key = SeriesKey::parse_text(alloc, key)?;
@@ -55,7 +54,7 @@ fn a_replica_lends_the_archives_of_a_series(rt: HostRuntime) -> Result<(), Fail>
     Ok(())
 }
 
-/// Joins what a replica has and another of its schema lacks. Answers how many names that one
+/// Joins into a replica what it lacks and another of its schema has. Returns how many names it
 /// listed, and how many cells it lacked.
 fn join_lacking<A: Cells>(
     alloc: Global,
@@ -70,7 +69,7 @@ fn join_lacking<A: Cells>(
     Ok((names.len(), cells.len()))
 }
 
-/// How many names a copy lists, how many cells its original then has that it lacks, and how many
+/// How many names a copy lists, how many cells it lacks that its original then has, and how many
 /// the copy has once they are joined.
 fn joined(alloc: Global) -> Result<((usize, usize), usize), Fail> {
     let mut replica = one_sample::<PackedArchive>(alloc, 1)?;

@@ -6,7 +6,7 @@ use rr_journal::Cursor;
 use rr_replication::{MAX_PART, Part, PartFault, part_from, read_part};
 use std::alloc::Global;
 
-/// What a peer makes of a part at its place: the answer, where it is then, and how many cells.
+/// What a peer makes of a part at its place: the result, where it then is, and how many cells came.
 fn read(
     alloc: Global,
     part: &[u8],
@@ -48,7 +48,7 @@ fn a_part_without_a_whole_record_is_damaged(rt: HostRuntime) {
     assert_eq!(rt; (short, elsewhere), (damaged, damaged));
 }
 
-/// What is given of a journal of three files.
+/// The part that is given of a journal of three files.
 fn given(from: u64) -> Part {
     part_from(&[300, 100, 9_000_000], 10_000_000, from)
 }

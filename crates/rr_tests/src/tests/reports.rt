@@ -1,4 +1,4 @@
-//! Scripts run and lines checked from a stream to another that holds bytes back.
+//! Scripts run and lines checked from one stream to another that holds bytes back.
 
 use rr_base::Counted;
 use rr_fakes::holding::Holding;
@@ -8,7 +8,7 @@ use rr_process::obey_order;
 use rr_words::Order;
 use std::alloc::Global;
 
-/// Obeys an order over a writer that holds bytes back, and answers whether that was without a
+/// Obeys an order with a writer that holds bytes back, and returns whether that was without a
 /// fault.
 fn is_obeyed(alloc: Global, order: &Order, input: &[u8], passed: &mut Vec<u8>) -> bool {
     let held = Vec::new(alloc);

@@ -1,4 +1,4 @@
-//! A node over memory: its rounds.
+//! A node in memory: its rounds.
 
 use rr_base::{Counted, Origin};
 use rr_desk::{Keeper, open};
@@ -18,12 +18,12 @@ use std::sync::Wait;
 use std::test::Fail;
 use std::thread::Threads;
 
-/// The configuration of a node of three rows a minute, which keeps one round and has two peers.
+/// The configuration of a node of three one-minute rows, which keeps one round and has two peers.
 pub(crate) const CONFIG: &[u8] =
     b"step = 60\nlines = \"l\"\nfetch = [\"f\"]\npeers = [\"no\", \"yes\"]\nrounds = 1\n\
     [[archive]]\nsteps = 1\nrows = 3\nxff_num = 0\nxff_den = 1\n";
 
-/// No seats; memory sufficed for them or not.
+/// No seats, for which memory suffices or not.
 #[derive(Drop)]
 struct NoSeats {
     suffices: bool,
@@ -39,7 +39,7 @@ impl Seats for NoSeats {
     }
 }
 
-/// Whether a snapshot is loaded as the peer's sample alone.
+/// Whether a snapshot loads as the peer's sample alone.
 fn is_loaded(alloc: Global, config: &Config, bytes: &[u8]) -> Option<bool> {
     let origin = Origin::new(9).ok()?;
     let mut input = Counted::new(bytes);
@@ -55,8 +55,8 @@ fn is_loaded(alloc: Global, config: &Config, bytes: &[u8]) -> Option<bool> {
     Some(held == (1, 1, 7))
 }
 
-/// The peer that failed and its fault, if a round's shelf was told of one alone, and else of a
-/// report, of no sample that is lost, of one cell after the pulls and of a whole snapshot.
+/// The peer that failed and its fault, if a round's shelf was told of only one, and otherwise of a
+/// report, of no lost sample, of one cell after the pulls and of a whole snapshot.
 fn told(calls: &[ShelfNote]) -> Option<(usize, NodeFault)> {
     let mut failed = None;
     for call in calls {
@@ -80,7 +80,7 @@ type Done = (
     Option<bool>,
 );
 
-/// What a node did that ended so, by what it dialed and what its shelf was told.
+/// What a node did that ended like this, by what it dialed and what its shelf was told.
 fn done_by(
     alloc: Global,
     config: &Config,
@@ -94,8 +94,8 @@ fn done_by(
     Some((served, failed, is_sent, is_saved))
 }
 
-/// Serves as a node that keeps one round, to which an empty connection comes, and for whose seats
-/// memory suffices or not.
+/// Serves as a node that keeps one round, gets an empty connection, and has memory for its seats or
+/// not.
 fn kept<R: Wait + Threads + Sync>(
     rt: &R,
     alloc: Global,
@@ -127,7 +127,7 @@ fn kept<R: Wait + Threads + Sync>(
     done_by(alloc, config, served, dial, shelf)
 }
 
-/// What the keeper of a new desk of origin 2 does, as [`kept`] has it.
+/// What the keeper of a new desk of origin 2 does, by [`kept`].
 fn done<R: Wait + Threads + Sync>(rt: &R, alloc: Global, suffices: bool) -> Option<Done> {
     let config = Config::from_toml(alloc, CONFIG).ok()?;
     let replica = minutes(alloc, 2, 3).ok()?;
@@ -137,8 +137,8 @@ fn done<R: Wait + Threads + Sync>(rt: &R, alloc: Global, suffices: bool) -> Opti
     done
 }
 
-// The first peer can't be reached, and the second has one sample. Where memory runs out at a seat,
-// the node says so once its rounds are kept.
+// The first peer can't be reached, and the second has one sample. If memory runs out at a seat, the
+// node says so once its rounds are kept.
 #[test]
 fn a_node_pulls_from_each_peer_and_saves(rt: HostRuntime) -> Result<(), Fail> {
     let failed = Some((1, NodeFault::BadAddress));

@@ -4,7 +4,7 @@ use rr_cluster::run;
 use std::alloc::Global;
 use std::test::Fail;
 
-/// What a script prints with a line of `x`s after two lines that are skipped.
+/// What a script prints that has a line of `length` `x`s after two skipped lines.
 fn printed(alloc: Global, length: usize) -> Result<Vec<u8>, Fail> {
     let mut script = Vec::from_slice(alloc, b"#x\n\n")?;
     script.extend_from_slice(vec![in alloc; b'x'; length]?.as_slice())?;

@@ -1,4 +1,4 @@
-//! A node over memory with two seats, each of which is served on a thread of its own.
+//! A node in memory with two seats, each served on a thread of its own.
 
 use super::asked::Asked;
 use super::gates::{Meets, Signal};
@@ -17,15 +17,15 @@ use std::sync::atomic::{AtomicU64, Ordering};
 use std::test::Fail;
 use std::thread::{Threads, for_each_mut};
 
-/// The configuration of a node of three rows a minute to which no line connection comes, and which
-/// takes one connection at each of two seats.
+/// The configuration of a node of three one-minute rows, which gets no line connection and takes
+/// one connection at each of two seats.
 const CONFIG: &[u8] = b"step = 60\nlines = \"l\"\nfetch = [\"f\", \"g\"]\nvisits = 1\n\
     [[archive]]\nsteps = 1\nrows = 3\nxff_num = 0\nxff_den = 1\n";
 
 /// What each answers: nothing is known.
 const ROWS: &[u8] = b"m v,0,U\nm v,60,U\n\n";
 
-/// A seat over memory whose answer waits for that of the other.
+/// A seat in memory whose reader waits, in its copy, until the other is in its own.
 type InMemory = Seat<PackedArchive, Asked, Meets>;
 
 /// Two seats.
@@ -34,7 +34,7 @@ struct Two {
     seats: Vec<InMemory>,
 }
 
-/// Serves a seat, and answers whether memory sufficed.
+/// Serves a seat, and returns whether memory sufficed.
 fn is_served(alloc: Global, seat: &mut InMemory, visits: u64) -> bool {
     serve_seat(alloc, seat, visits).is_ok()
 }
@@ -91,7 +91,7 @@ fn has_answered(seat: InMemory) -> bool {
         .is_some_and(|answer| answer.as_slice() == ROWS)
 }
 
-/// Two seats, of which each waits for the other.
+/// Two seats, each of which waits for the other.
 fn two_seats(
     clock: &HostRuntime,
     alloc: Global,
@@ -106,7 +106,7 @@ fn two_seats(
     })
 }
 
-/// Serves a node with these seats, to which no line connection comes.
+/// Serves a node with these seats, which gets no line connection.
 fn serve_both<R: Threads + Wait + Sync>(
     rt: &R,
     alloc: Global,
@@ -139,7 +139,7 @@ fn answer_both<R: Threads + Wait + Sync>(
     Some((has_answered(seats.pop()?), has_answered(seats.pop()?)))
 }
 
-/// Whether each seat of a node answers whose desk is opened for them.
+/// Whether each seat of a node answers, with a desk opened for them.
 fn answers_of_a_desk<R: Threads + Wait + Sync>(
     rt: &R,
     clock: &HostRuntime,

@@ -1,4 +1,4 @@
-//! Signals, which end no save, no load, no pull and no connection.
+//! Signals: they end no save, load, pull or connection.
 
 use rr_base::{Counted, Origin};
 use rr_desk::{Keeper, Reader, open};
@@ -48,7 +48,7 @@ fn a_signal_ends_no_save_and_no_load(rt: HostRuntime) {
     );
 }
 
-/// How many cells a replica that holds none pulls.
+/// How many cells an empty replica pulls.
 fn pulled(alloc: Global) -> Option<usize> {
     let mut replica = minutes::<PackedArchive>(alloc, 2, 3).ok()?;
     let mut output = signalled(Vec::new(alloc));

@@ -1,5 +1,5 @@
-//! Connections of a reactor over sockets in memory: who is let go when, and what is answered where a
-//! queue is behind, or where there is no room.
+//! Connections of a reactor over sockets in memory: which are let go, and when, and what is
+//! answered if a queue is behind or there is no room.
 
 mod waiting;
 
@@ -28,7 +28,7 @@ fn number(text: &[u8]) -> u64 {
 struct Client {
     /// The status of the first response.
     status: Arc<AtomicU64>,
-    /// How many bytes it takes still.
+    /// How many more bytes it takes.
     room: Arc<AtomicU64>,
 }
 
@@ -39,7 +39,7 @@ impl Client {
         status.load(Ordering::SeqCst)
     }
 
-    /// Notes the status of the first response, with which it begins.
+    /// Notes the status at the beginning of the first response.
     fn note(&self, response: &[u8]) {
         let status: &AtomicU64 = &self.status;
         if status.load(Ordering::SeqCst) == 0
@@ -49,13 +49,13 @@ impl Client {
         }
     }
 
-    /// Takes this many bytes more.
+    /// Lets it take this many bytes from now on.
     fn take(&self, count: u64) {
         let room: &AtomicU64 = &self.room;
         room.store(count, Ordering::SeqCst);
     }
 
-    /// Takes as many of so many bytes as it may, and says how many.
+    /// Takes as many of `count` bytes as it has room for, and returns how many.
     fn taken(&self, count: usize) -> usize {
         let room: &AtomicU64 = &self.room;
         let left = usize::try_from(room.load(Ordering::SeqCst)).unwrap_or(usize::MAX);
@@ -65,8 +65,8 @@ impl Client {
     }
 }
 
-/// A socket that brings some bytes and then waits. What is written to it is let go but for the status
-/// of the first response.
+/// A socket that brings some bytes and then waits. What is written to it is dropped, except for the
+/// status of the first response.
 #[derive(Drop)]
 struct Prepared {
     text: Vec<u8>,
@@ -122,7 +122,7 @@ fn limits() -> Limits {
     }
 }
 
-/// Takes in a connection that brings this text and takes so many bytes, and goes on with it.
+/// Accepts a connection that brings this text and takes this many bytes, and advances it.
 fn admit_client(
     alloc: Global,
     connections: &mut Connections<Prepared>,
@@ -149,7 +149,7 @@ fn admit_client(
     Ok(client)
 }
 
-/// Takes in a connection that brings this text and takes all that it is sent, and goes on with it.
+/// Accepts a connection that brings this text and takes all that it is sent, and advances it.
 fn admit(
     alloc: Global,
     connections: &mut Connections<Prepared>,
@@ -187,7 +187,7 @@ fn the_one_idle_longest_goes_for_a_new_one(rt: HostRuntime) -> Result<(), Fail> 
     let _first = admit(rt.alloc(), &mut connections, b"", 20)?;
     let _second = admit(rt.alloc(), &mut connections, b"", 10)?;
     assert!(rt; connections.make_room(30) && connections.len() == 1);
-    // The key that is free is that of the second.
+    // The free key is that of the second.
     assert!(rt; connections.next_key() == 1);
     Ok(())
 }
@@ -204,7 +204,7 @@ fn a_write_is_answered_503_where_its_queue_is_behind(rt: HostRuntime) -> Result<
     Ok(())
 }
 
-/// Takes in a connection that asks for something, and takes so many bytes of the answer.
+/// Accepts a connection that sends a request and takes this many bytes of the answer.
 fn admit_reader(
     alloc: Global,
     connections: &mut Connections<Prepared>,
@@ -231,7 +231,7 @@ fn answer(
     Ok(())
 }
 
-/// Limits with room for two such answers, and not for three.
+/// Limits with room for two such answers, but not for three.
 fn narrow() -> Limits {
     Limits {
         held: 100_000,
@@ -278,7 +278,7 @@ fn one_that_takes_an_answer_a_byte_at_a_time_goes_too(rt: HostRuntime) -> Result
     Ok(())
 }
 
-/// What a client sends of a body of this many bytes, behind its head.
+/// What a client sends: a head, and this many bytes of a body.
 fn upload(alloc: Global, head: &[u8], count: usize) -> Result<Vec<u8>, AllocError> {
     let mut text = Vec::from_slice(alloc, head)?;
     text.resize(text.len().saturating_add(count), b'#')?;

@@ -24,7 +24,7 @@ fn an_input_is_read_to_its_end(rt: HostRuntime) -> Result<(), Fail> {
 
 #[test]
 fn a_limit_of_reads_counts_each_call(rt: HostRuntime) {
-    // Three pieces and the end; then with two interrupted calls before them.
+    // Three pieces and the end; then the same after two interrupted calls.
     for (interrupts, reads, want) in [
         (0, 3, Err(ReadFault::TooManyReads)),
         (0, 4, Ok(())),
@@ -53,8 +53,8 @@ fn an_interrupted_read_is_made_again(rt: HostRuntime) {
     }
 }
 
-/// How a text is written to a writer that fails at the first calls, how such a one is flushed, and
-/// how many calls of the two failed.
+/// How a text is written to a writer whose first calls fail, how such a writer is flushed, and how
+/// many calls of each failed.
 fn written(
     alloc: Global,
     calls: u32,

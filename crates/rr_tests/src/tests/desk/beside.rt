@@ -1,4 +1,4 @@
-//! Readers on threads of their own, one of which answers while the other is in its copy.
+//! Two readers, each on its own thread: one answers while the other is in its copy.
 
 use super::super::gates::{Raises, Signal, WaitsFor};
 use rr_desk::{Gate, Reader, open};
@@ -10,7 +10,7 @@ use std::sync::Wait;
 use std::test::Fail;
 use std::thread::{Threads, join};
 
-/// Whether a reader answers through a gate that nothing is known of two minutes.
+/// Whether a reader, through a gate, answers that nothing is known of two minutes.
 fn answers_unknown<G: Gate>(
     alloc: Global,
     reader: &mut Reader<PackedArchive>,
@@ -25,7 +25,7 @@ fn answers_unknown<G: Gate>(
     }
 }
 
-/// Whether each of two readers answers, where the first is kept in its copy until the second has
+/// Whether each of two readers answers when the first is kept in its copy until the second has
 /// answered.
 fn answer_both<R: Threads>(
     rt: &R,

@@ -8,10 +8,10 @@ use rr_replica::Replica;
 use std::alloc::Global;
 use std::sync::Wait;
 
-/// How many nanoseconds a minute has.
+/// A minute, in nanoseconds.
 const MINUTE: i64 = 60_000_000_000;
 
-/// Joins cells into a copy. Answers how many they are, and the last of them.
+/// Joins cells into a copy. Returns how many there are, and the last of them.
 fn join(copy: &mut Replica<PackedArchive>, cells: &[Cell]) -> Option<(usize, Option<Cell>)> {
     for cell in cells {
         copy.apply_cell(cell).ok()?;
@@ -22,8 +22,8 @@ fn join(copy: &mut Replica<PackedArchive>, cells: &[Cell]) -> Option<(usize, Opt
     }
 }
 
-/// Joins a keeper's changes into a copy, two at a time, and says that they are written. Answers how
-/// many they were.
+/// Joins a keeper's changes into a copy, two at a time, and tells it that they are written. Returns
+/// how many there were.
 fn bring_changes(
     alloc: Global,
     keeper: &mut Keeper<PackedArchive>,
@@ -45,7 +45,7 @@ fn bring_changes(
     None
 }
 
-/// Joins all that a reader sees into a copy, two cells at a time. Answers how many they were.
+/// Joins all that a reader sees into a copy, two cells at a time. Returns how many there were.
 fn bring_all(
     alloc: Global,
     reader: &mut Reader<PackedArchive>,
@@ -65,7 +65,7 @@ fn bring_all(
     None
 }
 
-/// Joins the first cell of a copy into its keeper again.
+/// Joins the first cell of a copy back into its keeper.
 fn join_back(keeper: &mut Keeper<PackedArchive>, copy: &Replica<PackedArchive>) -> Option<()> {
     let Some(cell) = copy.cell_at(0) else {
         return None;
@@ -77,8 +77,8 @@ fn join_back(keeper: &mut Keeper<PackedArchive>, copy: &Replica<PackedArchive>) 
     keeper.join_cell(&cell).ok()
 }
 
-/// How many changes three samples of two series make; how many there are of a cell that is joined
-/// back, and of a sample more; and how many cells a reader then gives.
+/// How many changes three samples of two series make; how many a cell that is joined back makes,
+/// and how many one more sample; and how many cells a reader then gives.
 fn counts<R: Wait>(
     rt: &R,
     alloc: Global,
@@ -101,7 +101,8 @@ fn counts<R: Wait>(
     Some([new, none, later, bring_all(alloc, reader, seen)?])
 }
 
-/// These counts, and how many cells a copy by changes has in the end, and one by what a reader sees.
+/// These counts, and how many cells in the end a copy made of changes has, and one made of what a
+/// reader sees.
 fn found<R: Wait>(rt: &R, alloc: Global) -> Option<([usize; 4], [usize; 2])> {
     let mut copy = minutes(alloc, 2, 3).ok()?;
     let mut seen = minutes(alloc, 3, 3).ok()?;

@@ -9,8 +9,8 @@ use std::alloc::Global;
 use std::sync::Wait;
 use std::test::Fail;
 
-/// The number of readers of a desk that is opened for `readers` of them; where that is refused, the
-/// fault, and the number of cells of the replica that comes back.
+/// The number of readers of a desk that is opened for `readers` of them; if that is refused, the
+/// fault and the number of cells of the replica that comes back.
 fn opened_for<R: Wait>(
     alloc: Global,
     rt: &R,
@@ -35,7 +35,7 @@ fn a_desk_has_from_1_to_16_readers(rt: HostRuntime) -> Result<(), Fail> {
     Ok(())
 }
 
-/// A gate that answers false.
+/// A gate that is always shut.
 #[derive(Drop)]
 struct Shut;
 
@@ -51,13 +51,13 @@ impl Gate for Shut {
     fn after(&mut self) {}
 }
 
-/// Why a reader doesn't answer through a gate that is shut.
+/// Why a reader doesn't answer through a shut gate.
 fn refused(alloc: Global, reader: &mut Reader<PackedArchive>) -> Option<FetchFault> {
     let request = parse_request(alloc, b"LAST 60 0 120 m v", reader.schema()).ok()?;
     reader.fetch_through(alloc, &request, &mut Shut).err()
 }
 
-// A shut gate shuts one fetch, and the end of the keeper all that come after it.
+// A shut gate shuts out one fetch, and the end of the keeper all later ones.
 #[test]
 fn readers_have_seen_what_was_there(rt: HostRuntime) -> Result<(), Fail> {
     let replica = one_sample::<PackedArchive>(rt.alloc(), 1)?;

@@ -10,7 +10,7 @@ use std::alloc::Global;
 use std::sync::Wait;
 use std::test::Fail;
 
-/// Whether a reader learns a note and then answers by this text.
+/// Whether a reader learns a note and then answers with this text.
 fn learns(alloc: Global, reader: &mut Reader<PackedArchive>, note: Note, text: &[u8]) -> bool
     requires { note.desk ≡ reader.old.desk }
     ensures { reader.new.desk ≡ reader.old.desk }
@@ -18,9 +18,9 @@ fn learns(alloc: Global, reader: &mut Reader<PackedArchive>, note: Note, text: &
     reader.learn(note).is_ok() && answers(alloc, reader, text)
 }
 
-/// Whether a reader sees the 7 that a keeper puts at a minute after the epoch once it is published,
-/// and not while it is pending; and whether an old note takes nothing back. Of the two publications
-/// the second has nothing to publish.
+/// Whether a reader sees the 7 that a keeper puts one minute after the epoch once it is published,
+/// and not while it is pending; and whether an old note takes nothing back. The second of the two
+/// publications has nothing to publish.
 fn sees_in_turn<R: Wait>(
     alloc: Global,
     rt: &R,

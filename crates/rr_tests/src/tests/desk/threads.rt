@@ -9,8 +9,8 @@ use std::sync::Wait;
 use std::test::Fail;
 use std::thread::{Threads, join};
 
-/// The last value of the minute after the epoch that a reader answers: 0 where nothing is known,
-/// and none where the answer is neither that nor a number from 1 to 1,000.
+/// The last value that a reader answers for the minute from 60 s on: 0 if nothing is known, and
+/// none if the answer is neither that nor a number from 1 to 1,000.
 fn last_value(alloc: Global, reader: &mut Reader<PackedArchive>) -> Option<u64> {
     let text = fetched(alloc, reader, b"LAST 60 60 120 m v")?;
     let value = text.strip_prefix(b"m v,60,")?.strip_suffix(b"\n")?;
@@ -21,7 +21,8 @@ fn last_value(alloc: Global, reader: &mut Reader<PackedArchive>) -> Option<u64> 
     (1 <= value && value <= 1_000).then_some(value)
 }
 
-/// Whether each of 10,000 fetches answers what is possible, and none less than the one before it.
+/// Whether each of 10,000 fetches gives a possible value, and none a smaller one than the fetch
+/// before.
 fn fetch_often(alloc: Global, reader: &mut Reader<PackedArchive>) -> bool {
     let mut last = 0;
     for _ in 0..10_000 {
@@ -48,7 +49,7 @@ fn put_often<R: Wait>(rt: &R, alloc: Global, keeper: &mut Keeper<PackedArchive>)
     true
 }
 
-/// A reader fetches on a thread of its own, while the keeper puts and publishes.
+/// Fetches with a reader on a thread of its own, while the keeper puts and publishes.
 fn fetch_beside<R: Threads + Wait + Sync>(
     rt: &R,
     alloc: Global,

@@ -14,7 +14,7 @@ fn limits(held: usize) -> Limits {
     }
 }
 
-/// Takes in a connection that sends so many bytes of a body whose size its head says.
+/// Accepts a connection that sends this many bytes of a body whose size its head gives.
 fn admit_upload(
     alloc: Global,
     connections: &mut Connections<Prepared>,
@@ -27,13 +27,14 @@ fn admit_upload(
     Ok(())
 }
 
-/// The key of the next item that is to be written.
+/// The key of the next item to be written.
 fn next_key(connections: &mut Connections<Prepared>) -> Option<usize> {
     let item = connections.asked().writes.pop_front()?;
     Some(item.key)
 }
 
-/// What clients send that wait for memory, in the order in which they come: the least comes last.
+/// What clients send that wait for memory, in the order in which they come: the smallest comes
+/// last.
 const WAITING: [(&[u8], usize); 3] = [
     (
         b"POST /write HTTP/1.1\r\nHost: a\r\nContent-Length: 50000\r\n\r\n",
