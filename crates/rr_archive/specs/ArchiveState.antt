@@ -1,4 +1,4 @@
--- What an ordered map from slots to rows holds; a row without entries counts for nothing.
+-- What an ordered map from slots to rows holds; a row without entries counts as none.
 use Rattle.std.specs.Prelude.{◌≡◌, ℕ, ℤ, nat_lt, ◌≤◌, Bool, true, false, not, ◌||◌, List, [], ◌∷◌, ◌++◌, map, length, Option, Some, None, unwrap_or, vec_len, vec_capacity}
 use Rattle.std.specs.Global.{Vec}
 use Rattle.std.specs.Map.{lookup}
@@ -31,7 +31,7 @@ cell_slots_in (r ∷ rs) = map (λ e. cell_slot r.0 e.origin) r.1.items ++ cell_
 unfoldable pub cells_in : List (ℤ × Vec Entry) → ArchiveCells
 cells_in rows = map_of (cell_slots_in rows) (cell_in rows)
 
--- whether the row of the cell slot can take an entry more without memory
+-- whether the row of the cell slot has room for one more entry
 abbrev pub has_room_in : List (ℤ × Vec Entry) → CellSlot → Bool
 has_room_in rows p = unwrap_or (option_map (λ row. nat_lt (vec_len row) (vec_capacity row)) (row_in rows p.slot)) false
 
@@ -58,8 +58,8 @@ abbrev pub first_len : List (ℤ × Vec Entry) → ℕ
 first_len [] = 0
 first_len (r ∷ rs) = length r.1.items
 
--- of an archive of `limit` rows: how many cells they hold, the newest slot of a cell, and what each cell
--- keeps to
+-- an archive of `limit` rows, at least one, has `count` cells and `newest` as their newest slot, and each cell is live
+-- and in range
 pub record IsArchiveState (limit count : ℕ) (newest : Option ℤ) (rows : List (ℤ × Vec Entry)) : Type 0 where
   pub rows_at_least : 1 ≤ limit
   pub counted : count ≡ len (cells_in rows)

@@ -27,11 +27,11 @@ newest_of ps = greatest int_cmp (map (λ p. p.slot) ps)
 abbrev pub is_live_at : ℕ → List CellSlot → CellSlot → Bool
 is_live_at rows ps p = is_above rows (newest_of ps) p.slot
 
--- whether it can be the slot of a time: of a step of one second or more, from the least time to the greatest
+-- it can be the slot of a time: with a step of one second or more, from the least time to the greatest
 abbrev pub IsSlot : ℤ → Type 0
 IsSlot slot = (negsuc (MAX_SECOND - 1) ≤ℤ slot) × (slot ≤ℤ pos MAX_SECOND)
 
--- the slot of a time, and an origin
+-- it has the slot of a time, and an origin
 pub record IsInRange (p : CellSlot) : Type 0 where
   pub slot : IsSlot p.slot
   pub origin : IsOrigin p.origin

@@ -14,13 +14,13 @@ use Rattle.rr_archive.specs.CellSlots.{CellSlot, cell_slot_cmp, is_live_at, IsIn
 abbrev pub ArchiveCells : Type 0
 ArchiveCells = FinMap cell_slot_cmp Contribution
 
--- each cell is of the slot of a time, and of an origin
+-- each cell has the slot of a time, and an origin
 abbrev pub AreInRange : ArchiveCells → Type 0
 AreInRange m = (p : CellSlot) → IsTrue (contains_key m p) → IsInRange p
 
 -- ---- without a horizon
 
--- with a sample more at a cell slot
+-- with one more sample at a cell slot
 abbrev pub with_put : ArchiveCells → CellSlot → SlotSample → ArchiveCells
 with_put m p x = insert m p (contribution_with (get m p) x)
 
@@ -28,7 +28,7 @@ with_put m p x = insert m p (contribution_with (get m p) x)
 abbrev pub with_change : ArchiveCells → CellSlot → Change → ArchiveCells
 with_change m p change = insert m p (contribution_after (get m p) change)
 
--- at each cell slot of either map the greater contribution
+-- the greater contribution at each cell slot of either map
 abbrev pub merge_archive_cells : ArchiveCells → ArchiveCells → ArchiveCells
 merge_archive_cells m n = merged contribution_cmp m n
 
@@ -36,21 +36,21 @@ merge_archive_cells m n = merged contribution_cmp m n
 abbrev pub with_cell : ArchiveCells → CellSlot → Contribution → ArchiveCells
 with_cell m p c = merge_archive_cells m (insert empty p c)
 
--- ---- of an archive of a number of rows
+-- ---- in an archive of a number of rows
 
 -- no cell is past the horizon
 abbrev pub IsTrimmed : ℕ → ArchiveCells → Type 0
 IsTrimmed rows m = trimmed (is_live_at rows) m ≡ m
 
--- with a sample more at a cell slot, and then the live cells
+-- with one more sample at a cell slot, and then only the live cells
 abbrev pub put_in_archive : ℕ → ArchiveCells → CellSlot → SlotSample → ArchiveCells
 put_in_archive rows m p x = trimmed (is_live_at rows) (with_put m p x)
 
--- with the cell at a cell slot changed, and then the live cells
+-- with the cell at a cell slot changed, and then only the live cells
 abbrev pub changed_in_archive : ℕ → ArchiveCells → CellSlot → Change → ArchiveCells
 changed_in_archive rows m p change = trimmed (is_live_at rows) (with_change m p change)
 
--- the two merged, and then the live cells
+-- the two merged, and then only the live cells
 abbrev pub join_archive_cells : ℕ → ArchiveCells → ArchiveCells → ArchiveCells
 join_archive_cells rows m n = joined contribution_cmp (is_live_at rows) m n
 
@@ -58,9 +58,9 @@ join_archive_cells rows m n = joined contribution_cmp (is_live_at rows) m n
 abbrev pub join_cell : ℕ → ArchiveCells → CellSlot → Contribution → ArchiveCells
 join_cell rows m p c = join_archive_cells rows m (insert empty p c)
 
--- ---- read
+-- ---- as they are read
 
--- what stands at a cell slot, as the entry of a row
+-- the cell at a cell slot, as the entry of a row
 abbrev pub entry_of : CellSlot × Contribution → Entry
 entry_of e = record { origin = e.0.origin; contribution = e.1 }
 

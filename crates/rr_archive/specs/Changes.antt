@@ -1,4 +1,4 @@
--- What comes to a cell, and what the cell contributes then.
+-- Changes of a cell, and what the cell contributes after one.
 use Rattle.std.specs.Prelude.{ℕ, List, Option, Some, None, IfSome}
 use Rattle.std.specs.Ordering.{ord_max}
 use Rattle.rr_contrib.specs.declared.contribution.Contribution.{Contribution}
@@ -18,7 +18,7 @@ abbrev pub greater_of : Option Contribution → Contribution → Contribution
 greater_of None c = c
 greater_of (Some known) c = ord_max contribution_cmp known c
 
--- a change that the cell can take: the number of a sample is greater than those that the cell knows
+-- a change that the cell can take: a sample can be added to what the cell knows
 abbrev pub Fits : Option Contribution → Change → Type 0
 Fits known (Put x) = IfSome known (CanAdd x.number)
 Fits known (Join c) = Unit {0}

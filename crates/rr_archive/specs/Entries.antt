@@ -1,4 +1,4 @@
--- The entries of a row that mostly has one.
+-- The entries of a row, which mostly has one.
 use Rattle.std.specs.Prelude.{ℕ, ◌==◌, nat_lt, Bool, true, List, [], ◌∷◌, vec_len, vec_capacity}
 use Rattle.rr_archive.specs.declared.entry.Entry.{Entry}
 use Rattle.rr_archive.specs.declared.entries.Entries.{Entries}
@@ -10,7 +10,7 @@ items_of Empty = []
 items_of (One e) = e ∷ []
 items_of (Many v) = v.items
 
--- whether the entry of an origin can be changed or added without memory
+-- whether there is room to change or add the entry of an origin
 abbrev pub has_room : Entries → ℕ → Bool
 has_room Empty origin = true
 has_room (One e) origin = e.origin == origin

@@ -25,11 +25,11 @@ JoinIsAssociative = (rows : ℕ) (l m n : ArchiveCells) → 0 < rows
 abbrev pub JoinIsIdempotent : Type 0
 JoinIsIdempotent = (rows : ℕ) (m : ArchiveCells) → 0 < rows → IsTrimmed rows m → join_archive_cells rows m m ≡ m
 
--- what the join gives is trimmed
+-- the cells that a join gives are trimmed
 abbrev pub JoinIsTrimmed : Type 0
 JoinIsTrimmed = (rows : ℕ) (m n : ArchiveCells) → 0 < rows → IsTrimmed rows (join_archive_cells rows m n)
 
--- live cells are at most as many as the rows times the origins that they are of
+-- there are at most as many live cells as the rows times the origins that they are of
 abbrev pub CellsAreFew : Type 0
 CellsAreFew = (rows : ℕ) (origins : List ℕ) (m : ArchiveCells) → IsTrimmed rows m
     → ((p : CellSlot) → IsTrue (contains_key m p) → Contains origins p.origin) → len m ≤ rows * length origins

@@ -1,4 +1,4 @@
--- The cells of the live slots of an archive, of a function that gives the entries of each slot.
+-- The cells of the live slots of an archive, from a function that gives the entries of each slot.
 use Rattle.std.specs.Prelude.{◌≡◌, ℕ, ℤ, pos, ◌+ℤ◌, ◌-ℤ◌, zero, suc, int_lt, Bool, true, false, List, [], ◌∷◌, ◌++◌, map, Option, Some, None, IsTrue}
 use Rattle.std.specs.FinMap.{keys, len, from_sorted}
 use Rattle.rr_contrib.specs.declared.contribution.Contribution.{Contribution}
@@ -31,8 +31,8 @@ abbrev pub is_later : Option ℤ → ℤ → Bool
 is_later None slot = true
 is_later (Some newest) slot = int_lt newest slot
 
--- how many cells there are, the newest slot of one, what each keeps to, and that nothing is stored of
--- later slots
+-- there are `count` cells, with `newest` as their newest slot; each is live and in range, the entries of each slot
+-- ascend, and later slots have none
 pub record IsArchiveStateBy (rows : ℕ) (newest : Option ℤ) (count : ℕ) (row : ℤ → List Entry) : Type 0 where
   pub counted : count ≡ len (cells_by rows newest row)
   pub latest : newest ≡ newest_of (keys (cells_by rows newest row))

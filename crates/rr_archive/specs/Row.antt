@@ -11,7 +11,7 @@ use Rattle.rr_archive.specs.declared.entry.Entry.{Entry}
 abbrev pub entry_at : List Entry → ℕ → Option Contribution
 entry_at es origin = option_map (λ e. e.contribution) (find (λ e. e.origin == origin) es)
 
--- with an entry in its place, instead of what its origin had
+-- with an entry in its place, instead of any that its origin had
 abbrev pub with_entry : List Entry → Entry → List Entry
 with_entry [] new = new ∷ []
 with_entry (e ∷ es) new = by_order (nat_cmp new.origin e.origin) (new ∷ e ∷ es) (new ∷ es) (e ∷ with_entry es new)
@@ -20,11 +20,11 @@ with_entry (e ∷ es) new = by_order (nat_cmp new.origin e.origin) (new ∷ e �
 abbrev pub is_from : ℕ → Entry → Bool
 is_from origin e = nat_le origin e.origin
 
--- whether an entry is in a later slot than the origin's, or after the origin in its own
+-- whether an entry is in a later slot, or of an origin above this one
 abbrev pub is_after : Bool → ℕ → Entry → Bool
 is_after is_later origin e = is_later || nat_lt origin e.origin
 
--- whether every origin is above the one before, the first of them above this one
+-- whether every origin is above the one before, and the first of them above this one
 abbrev pub ascends_from : ℕ → List Entry → Bool
 ascends_from below [] = true
 ascends_from below (e ∷ es) = nat_lt below e.origin && ascends_from e.origin es

@@ -27,16 +27,16 @@ pub record ChangesStored {S T : Type 0} (set : S → S → Type 0) (had : Bool) 
   pub unchanged : OnErr result (new ≡ old)
   pub room : IsTrue had → IsOk result
 
--- an entry was set, or memory ran out and nothing changed; entries that ascend still do; if there was room for an
--- entry more, memory doesn't run out
+-- an entry was set, or memory ran out and nothing changed; entries that ascend still do; if there was room for one more
+-- entry, memory doesn't run out
 pub record SetsEntry {T : Type 0} (e : Entry) (old new : Vec Entry) (result : Result T AllocError) : Type 0 where
   pub changed : OnOk result (new.items ≡ with_entry old.items e)
   pub unchanged : OnErr result (new.items ≡ old.items)
   pub ascend : IsTrue (ascends old.items) → IsTrue (ascends new.items)
   pub room : vec_len old < vec_capacity old → IsOk result
 
--- how many rows on the next one to look at is: at least one, unless `most` is none, and at most `most`; the rows
--- before it, from the row `from` on, have no entry
+-- how many rows ahead the next one to look at is: at least one, unless `most` is 0, and at most `most`; the rows before
+-- it, from the row `from` on, have no entry
 pub record PassesOver (from most : ℕ) (row : ℕ → List Entry) (result : ℕ) : Type 0 where
   pub at_least_one : 1 ≤ most → 1 ≤ result
   pub at_most : result ≤ most
@@ -44,13 +44,13 @@ pub record PassesOver (from most : ℕ) (row : ℕ → List Entry) (result : ℕ
 
 -- ---- the cells of an archive
 
--- as many rows as an archive may have
+-- a number of rows that an archive may have
 pub record IsRowCount (rows : ℕ) : Type 0 where
   pub rows_at_least : 1 ≤ rows
   pub rows_at_most : rows ≤ MAX_ROWS
 
--- a sample of this number that an archive with these cells can put at a cell slot: its number and its step in the row
--- are within their limits, and the number is greater than those that the cell knows
+-- a sample with this number can be put at a cell slot of an archive with these cells: the slot, its number and its step
+-- in the row are within their limits, and it can be added to what the cell knows
 pub record CanPut (cells : ArchiveCells) (p : CellSlot) (number step : ℕ) : Type 0 where
   pub slot : IsSlot p.slot
   pub number_at_least : 1 ≤ number
@@ -63,8 +63,8 @@ pub record IsSameArchive (was_rows rows : ℕ) (old new : ArchiveCells) : Type 0
   pub cells : new ≡ old
   pub limit : rows ≡ was_rows
 
--- an archive has the cells that it is to have once it takes a sample or a cell at a cell slot; nothing changed if that
--- is past the horizon or memory ran out; if the archive was ready, memory doesn't run out
+-- an archive took a sample or a cell at a cell slot, and has these cells; nothing changed if the cell slot is past the
+-- horizon or memory ran out; if the archive was ready, memory doesn't run out
 pub record ArchiveTakes (p : CellSlot) (made : ArchiveCells) (ready : Bool) (was_rows rows : ℕ) (old new : ArchiveCells)
     (result : Result (Unit {0}) AllocError) : Type 0 where
   pub taken : OnOk result (new ≡ made)
@@ -78,8 +78,8 @@ pub record CanTake (cells : ArchiveCells) (p : CellSlot) (change : Change) : Typ
   pub slot : IsSlot p.slot
   pub fits : Fits (get cells p) change
 
--- the cell at a cell slot was changed, and the live cells stay; nothing changed if it is past the horizon or memory
--- ran out; if the archive was ready, memory doesn't run out
+-- the cell at a cell slot was changed, and only the live cells are left; nothing changed if it is past the horizon or
+-- memory ran out; if the archive was ready, memory doesn't run out
 pub record ChangesCell (p : CellSlot) (change : Change) (newest : Option ℤ) (ready : Bool) (was_rows rows : ℕ)
     (old new : ArchiveCells) (result : Result (Unit {0}) AllocError) : Type 0 where
   pub changed : OnOk result (new ≡ trimmed (is_live_at was_rows) (with_change old p change))

@@ -1,4 +1,4 @@
--- The bounds that samples, and all cells of a schema, keep to.
+-- The bounds of samples, and of the cells of a schema.
 use Rattle.std.specs.Prelude.{◌<◌, ◌≤◌, nat_lt, Bool, ◌&&◌, length, IsTrue, FitsSigned}
 use Rattle.std.specs.Int.{w64, w128}
 use Rattle.rr_text.specs.declared.limits.TheConstants.{MAX_NUMBER}
@@ -11,7 +11,7 @@ use Rattle.rr_key.specs.Series.{IsKeyText}
 use Rattle.rr_cells.specs.CellNames.{CellName}
 use Rattle.rr_cells.specs.Samples.{Sample}
 
--- a sample within the limits, of a key text, with a time and a value of 64 bits
+-- a sample within the limits, of a key text, with a time and a value that fit 64 bits
 pub record IsSoundSample (x : Sample) : Type 0 where
   pub origin : IsOrigin x.origin
   pub some_number : 1 ≤ x.number
@@ -24,8 +24,8 @@ pub record IsSoundSample (x : Sample) : Type 0 where
 abbrev pub NamedCell : Type 0
 NamedCell = CellName × Contribution
 
--- a cell of a schema: of a key text, one of the schema's archives and an origin, and valid in its slot; its numbers
--- with a sign fit 64 bits, the sum 128
+-- a cell of a schema: it has a key text, one of the schema's archives and an origin, and is valid in its slot; its
+-- signed numbers fit 64 bits, the sum 128
 pub record IsCellOf (s : Layout) (e : NamedCell) : Type 0 where
   pub key : IsKeyText e.0.key
   pub archive : e.0.archive < length s.archives
@@ -38,7 +38,7 @@ pub record IsCellOf (s : Layout) (e : NamedCell) : Type 0 where
   pub last_time_fits : FitsSigned w64 e.1.last_time
   pub last_value_fits : FitsSigned w64 e.1.last_value
 
--- whether a cell is of one of the schema's archives and valid in its slot; a cell of the program keeps to all other
--- bounds by its types
+-- whether a cell is of one of the schema's archives and valid in its slot; a cell of the program is within all other
+-- bounds by its type
 abbrev pub is_cell_of : Layout → NamedCell → Bool
 is_cell_of s e = nat_lt e.0.archive (length s.archives) && is_valid s e.0.archive e.0.slot e.1

@@ -8,7 +8,7 @@ use Rattle.rr_schema.specs.Schema.{Layout, archive_at}
 use Rattle.rr_join.specs.Maps.{greatest}
 use Rattle.rr_join.specs.Horizon.{is_above}
 
--- what one origin knows of one row: the cell of a key (its text), an archive, a slot and an origin
+-- names what one origin knows of one row: by a key (its text), an archive, a slot and the origin
 pub record CellName : Type 0 where
   pub key : List ℕ
   pub archive : ℕ
@@ -23,7 +23,7 @@ cell_name_cmp a b =
     (ordering_then (int_cmp a.slot b.slot)
     (nat_cmp a.origin b.origin)))
 
--- whether the cell is of this archive of this key
+-- whether the cell belongs to this archive of this key
 abbrev pub is_of : List ℕ → ℕ → CellName → Bool
 is_of key archive n = pointwise nat_eq n.key key && (n.archive == archive)
 
@@ -31,10 +31,10 @@ is_of key archive n = pointwise nat_eq n.key key && (n.archive == archive)
 unfoldable pub newest : List CellName → List ℕ → ℕ → Option ℤ
 newest ns key archive = greatest int_cmp (map (λ n. n.slot) (filter (is_of key archive) ns))
 
--- whether a slot of an archive of a key, beside these names, is not past the horizon
+-- whether a slot of an archive of a key is not past the horizon of these names
 abbrev pub is_slot_live : Layout → List CellName → List ℕ → ℕ → ℤ → Bool
 is_slot_live s ns key archive slot = is_above (archive_at s archive).rows (newest ns key archive) slot
 
--- whether a cell, beside these names, is not past the horizon
+-- whether a cell is not past the horizon of these names
 abbrev pub is_live : Layout → List CellName → CellName → Bool
 is_live s ns n = is_slot_live s ns n.key n.archive n.slot

@@ -10,7 +10,7 @@ use Rattle.rr_archive.specs.CellSlots.{CellSlot, cell_slot}
 use Rattle.rr_archive.specs.Cells as held
 use Rattle.rr_cells.specs.CellNames.{CellName, cell_name_cmp, is_of, is_live}
 
--- what each name contributes
+-- the contribution at each name
 abbrev pub Cells : Type 0
 Cells = FinMap cell_name_cmp Contribution
 
@@ -20,7 +20,7 @@ IsTrimmed s m = trimmed (is_live s) m ≡ m
 
 -- ---- one archive of one key
 
--- the name of the cell at a cell slot of it
+-- the name of the cell at one of its cell slots
 abbrev pub name_at : List ℕ → ℕ → CellSlot → CellName
 name_at key archive p = record { key = key; archive = archive; slot = p.slot; origin = p.origin }
 
@@ -28,16 +28,16 @@ name_at key archive p = record { key = key; archive = archive; slot = p.slot; or
 abbrev pub cell_slot_of : CellName → CellSlot
 cell_slot_of n = cell_slot n.slot n.origin
 
--- of all cells those of an archive of a key, by their cell slots
+-- the cells of an archive of a key, by their cell slots
 unfoldable pub archive_cells : Cells → List ℕ → ℕ → held.ArchiveCells
 archive_cells m key archive = map_of (map cell_slot_of (filter (is_of key archive) (keys m)))
     (λ p. get m (name_at key archive p))
 
--- each cell of it is of one of these origins
+-- each of its cells is of one of these origins
 abbrev pub HasOriginsIn : Cells → List ℕ → ℕ → List ℕ → Type 0
 HasOriginsIn m key archive origins = (n : CellName) (c : Contribution) → get m n ≡ Some c → n.key ≡ key
     → n.archive ≡ archive → Contains origins n.origin
 
--- the entries of a slot of it, ascending by origin
+-- the entries in one of its slots, ascending by origin
 abbrev pub row_at : Cells → List ℕ → ℕ → ℤ → List Entry
 row_at m key archive slot = held.row_of (archive_cells m key archive) slot

@@ -1,4 +1,4 @@
--- The text that answers a fetch: a record of CSV for each row.
+-- The text that answers a fetch: a CSV record for each row.
 use Rattle.std.specs.Prelude.{ℕ, ℤ, pos, ◌+ℤ◌, ◌*ℤ◌, Bool, ◌||◌, ◌==◌, List, [], ◌∷◌, ◌++◌, map, codes, Option, Some, None, if◌then◌else◌}
 use Rattle.std.specs.List.{list_any, flat_map, range_with_len}
 use Rattle.std.specs.Fmt.{signed_decimal}
@@ -20,7 +20,7 @@ double_quote = 34
 abbrev pub comma : ℕ
 comma = 44
 
--- whether a byte makes its field stand in double quotes
+-- whether a field with this byte has to be in double quotes
 abbrev pub is_special : ℕ → Bool
 is_special b = (((b == comma) || (b == double_quote)) || (b == carriage_return)) || (b == line_feed)
 
@@ -32,7 +32,7 @@ doubled b = if b == double_quote then double_quote ∷ double_quote ∷ [] else 
 abbrev pub in_quotes : List ℕ → List ℕ
 in_quotes field = double_quote ∷ (flat_map doubled field ++ double_quote ∷ [])
 
--- a field of CSV: in double quotes where it has a special byte, and else as it is
+-- a CSV field: in double quotes if it has a special byte, otherwise as it is
 abbrev pub field_text : List ℕ → List ℕ
 field_text field = if list_any is_special field then in_quotes field else field
 
@@ -47,7 +47,7 @@ record_text key row =
     field_text key ++ comma ∷ field_text (signed_decimal row.0) ++ comma ∷ field_text (value_text row.1)
     ++ line_feed ∷ []
 
--- a fetch: a number of rows of an archive of a key (its text), from a first slot on
+-- a fetch: a function, and a number of rows of an archive of a key (its text), from a first slot on
 pub record Request : Type 0 where
   pub key : List ℕ
   pub function : ConsolidationFunction
@@ -67,6 +67,6 @@ rows_of s value_at q = map (λ slot. (slot *ℤ pos (span s q.archive), value_at
 unfoldable pub answer_text : Layout → (ℤ → Option ℤ) → Request → List ℕ
 answer_text s value_at q = flat_map (record_text q.key) (rows_of s value_at q)
 
--- the answer by what is known
+-- the answer from what is known
 abbrev pub fetch_text : Layout → Knowledge → Request → List ℕ
 fetch_text s k q = answer_text s (λ slot. row s k q.key q.archive slot q.function) q

@@ -1,4 +1,4 @@
--- What cells from elsewhere make of a replica.
+-- How cells from elsewhere change a replica.
 use Rattle.std.specs.Prelude.{ℕ, ◌+◌, ◌==◌, ◌&&◌, nat_le, List, [], ◌∷◌, if◌then◌else◌}
 use Rattle.rr_cells.specs.declared.cell.Cell.{Cell}
 use Rattle.rr_cells.specs.CellBounds.{NamedCell}
@@ -6,11 +6,11 @@ use Rattle.rr_cells.specs.ReplicaState.{ReplicaState}
 use Rattle.rr_cells.specs.Joins.{join_cell}
 use Rattle.rr_cells.specs.Listing.{owned_cell}
 
--- the next number, moved past the version of a cell of the replica's own origin
+-- the next number, moved past the version of a cell if that is of the replica's own origin
 abbrev pub next_after : ℕ → ℕ → NamedCell → ℕ
 next_after origin next e = if (e.0.origin == origin && nat_le next e.1.version) then e.1.version + 1 else next
 
--- and past the versions of these cells, in order, that are of its own origin
+-- and so past the versions of these cells, in order
 abbrev pub next_past : ℕ → ℕ → List NamedCell → ℕ
 next_past origin next [] = next
 next_past origin next (e ∷ es) = next_past origin (next_after origin next e) es

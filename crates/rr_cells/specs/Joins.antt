@@ -9,7 +9,7 @@ use Rattle.rr_cells.specs.CellNames.{CellName, is_live}
 use Rattle.rr_cells.specs.CellBounds.{NamedCell}
 use Rattle.rr_cells.specs.Cells.{Cells}
 
--- at each name of either map the greater contribution, and then the live cells
+-- the greater contribution at each name of either map, and then only the live cells
 abbrev pub join : Layout → Cells → Cells → Cells
 join s m n = joined contribution_cmp (is_live s) m n
 

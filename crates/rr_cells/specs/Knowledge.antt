@@ -1,4 +1,4 @@
--- What is known: a set of marks, of which only the live ones count.
+-- What is known: a set of marks; only the live ones count.
 use Rattle.std.specs.Prelude.{◌≡◌, ℕ, ◌<◌, Bool, not, IsTrue, List, ◌++◌, take, drop}
 use Rattle.std.specs.Ordering.{eq_by_cmp}
 use Rattle.std.specs.List.{filter, list_any}
@@ -20,7 +20,7 @@ knows k m = contains_key k m
 abbrev pub union : Knowledge → Knowledge → Knowledge
 union k l = set_of (keys k ++ keys l)
 
--- what is known with these marks too
+-- what is known, with these marks added
 abbrev pub with_marks : Knowledge → List Mark → Knowledge
 with_marks k ms = union k (set_of ms)
 
@@ -52,7 +52,7 @@ cells_where s k test = retain_keys (live s k) (λ m. test (name_of s m))
 abbrev pub cells_named : Layout → Knowledge → List CellName → Knowledge
 cells_named s k ns = cells_where s k (λ n. list_any (eq_by_cmp cell_name_cmp n) ns)
 
--- the cells of `count` names from an offset on, or of as many as there are
+-- the cells of at most `count` names, from an offset on
 abbrev pub part : Layout → Knowledge → ℕ → ℕ → Knowledge
 part s k from count = cells_named s k (take count (drop from (names s k)))
 

@@ -47,11 +47,11 @@ DeadLeaveNoTrace =
     → IsFalse (is_slot_live s (keys m) x.key archive (slot_of s archive x.time))
     → archive_cells (put_sample s m x) x.key archive ≡ archive_cells m x.key archive
 
--- what a put leaves is trimmed
+-- the cells after a put are trimmed
 abbrev pub PutIsTrimmed : Type 0
 PutIsTrimmed = (s : Layout) (m : Cells) (x : Sample) → IsLayout s → IsTrimmed s m → IsTrimmed s (put_sample s m x)
 
--- in each archive of each key the live cells are at most as many as its rows times the origins that have one there
+-- each archive of each key has at most as many live cells as its rows times the origins that have one there
 abbrev pub LiveCellsAreFew : Type 0
 LiveCellsAreFew =
     (s : Layout) (m : Cells) (key : List ℕ) (archive : ℕ) (origins : List ℕ) → IsLayout s → IsTrimmed s m
@@ -69,7 +69,7 @@ CellJoinIsAssociative = (s : Layout) (l m n : Cells) → IsLayout s → join s (
 abbrev pub CellJoinIsIdempotent : Type 0
 CellJoinIsIdempotent = (s : Layout) (m : Cells) → IsLayout s → IsTrimmed s m → join s m m ≡ m
 
--- what the join gives is trimmed
+-- the cells that a join gives are trimmed
 abbrev pub CellJoinIsTrimmed : Type 0
 CellJoinIsTrimmed = (s : Layout) (m n : Cells) → IsLayout s → IsTrimmed s (join s m n)
 
@@ -80,17 +80,17 @@ JoinGoesByArchives =
     → archive_cells (join s m n) key archive ≡ join_archive_cells (archive_at s archive).rows
     (archive_cells m key archive) (archive_cells n key archive)
 
--- to join the cells of two closed knowledges is to unite what is known, through the horizon
+-- joining the cells of two closed knowledges gives the cells of their union
 abbrev pub JoinUnites : Type 0
 JoinUnites =
     (s : Layout) (w : World) (k l : Knowledge) → IsLayout s → IsClosed s w k → IsClosed s w l
     → join s (cells_of_knowledge s k) (cells_of_knowledge s l) ≡ cells_of_knowledge s (union k l)
 
--- to join a map cell by cell is to join it
+-- joining a map cell by cell is the same as joining it at once
 abbrev pub JoinGoesByCells : Type 0
 JoinGoesByCells = (s : Layout) (m n : Cells) → IsLayout s → IsTrimmed s m → join_cells s m (entries n) ≡ join s m n
 
--- to join one cell of a closed knowledge is to know that cell's marks
+-- joining one cell of a closed knowledge gives the cells of what is known with that cell's marks
 abbrev pub JoinCellUnites : Type 0
 JoinCellUnites =
     (s : Layout) (w : World) (k l : Knowledge) (n : CellName) (c : Contribution) → IsLayout s → IsClosed s w k
@@ -101,27 +101,27 @@ JoinCellUnites =
 
 -- ---- whole cells, and differences
 
--- the cells of a part are those from an offset on, as many as there are up to a count
+-- the cells of a part are those from an offset on, at most a count of them
 abbrev pub PartsAreCutFromEntries : Type 0
 PartsAreCutFromEntries =
     (s : Layout) (k : Knowledge) (from count : ℕ) → IsLayout s
     → entries (cells_of_knowledge s (part s k from count)) ≡ take count (drop from (entries (cells_of_knowledge s k)))
 
--- whole live cells make their own cells
+-- the whole cells of names that pass a test make exactly the cells of these names
 abbrev pub WholeCellsMakeTheirCells : Type 0
 WholeCellsMakeTheirCells = (s : Layout) (k : Knowledge) (test : CellName → Bool) → IsLayout s
     → cells_of_knowledge s (cells_where s k test) ≡ retain_keys (cells_of_knowledge s k) test
 
--- the live marks make the same cells
+-- the live marks alone make the same cells
 abbrev pub LiveMakesTheSame : Type 0
 LiveMakesTheSame = (s : Layout) (k : Knowledge) → IsLayout s → cells_of_knowledge s (live s k) ≡ cells_of_knowledge s k
 
--- so two that have the same live marks make the same cells
+-- so two knowledges with the same live marks make the same cells
 abbrev pub StateIsOfTheLive : Type 0
 StateIsOfTheLive = (s : Layout) (k l : Knowledge) → IsLayout s → live s k ≡ live s l
     → cells_of_knowledge s k ≡ cells_of_knowledge s l
 
--- of closed knowledges the difference is read from the versions
+-- the difference of closed knowledges can be read from the versions
 abbrev pub LackIsByVersions : Type 0
 LackIsByVersions =
     (s : Layout) (w : World) (k l : Knowledge) → IsLayout s → IsClosed s w k → IsClosed s w l
@@ -141,31 +141,31 @@ VersionsAreNumbers =
     → get (cells_of_knowledge s k) n ≡ Some c
     → (x : Sample) × IsWritten w x × (x.origin ≡ n.origin) × (x.number ≡ c.version)
 
--- so a next number that is past all that its origin wrote stays, whichever of the cells are joined
+-- so a next number that is past all that its origin wrote stays the same, whichever of the cells are joined
 abbrev pub NextStays : Type 0
 NextStays =
     (s : Layout) (w : World) (k : Knowledge) (origin next : ℕ) (es : List NamedCell) → IsClosed s w k
     → ((x : Sample) → IsWritten w x → x.origin ≡ origin → x.number < next)
     → All (λ e. get (cells_of_knowledge s k) e.0 ≡ Some e.1) es → next_past origin next es ≡ next
 
--- the sums of as many cells as there are origins stay below 2^119
+-- the sums of at most as many cells as there are origins add up to less than 2^119 in magnitude
 abbrev pub SumsAreSmall : Type 0
 SumsAreSmall = (s : Layout) (es : List NamedCell) → All (IsCellOf s) es → length es ≤ MAX_ORIGIN
     → unsigned_abs (int_sum (map (λ e. e.1.sum) es)) < 2 ^ 119
 
 -- ---- operations
 
--- to join each cell of a map, from none, makes the map
+-- joining each cell of a map, from none, makes the map
 abbrev pub JoinsMakeTheirCells : Type 0
 JoinsMakeTheirCells = (s : Layout) (m : Cells) → IsLayout s → IsTrimmed s m → outcome_of s (joins_of m) ≡ m
 
--- a replica takes each of these operations, where the cells are of its schema
+-- a replica takes each of these joins, if the cells are of its schema
 abbrev pub JoinsAreTaken : Type 0
 JoinsAreTaken = (h : ReplicaState) (m : Cells) → All (IsCellOf h.schema) (entries m) → AllAccepted h (joins_of m)
 
 -- ---- joins that were broken off
 
--- to join the first cells and then the rest is to join them all
+-- joining the first cells and then the rest is the same as joining them all
 abbrev pub JoiningGoesOn : Type 0
 JoiningGoesOn = (h : ReplicaState) (cells : List Cell) (n : ℕ)
     → with_cells (with_cells h (take n cells)) (drop n cells) ≡ with_cells h cells

@@ -1,4 +1,4 @@
--- Operations, and what they make of a replica and of cells alone.
+-- Operations, and how they change a replica, and cells alone.
 use Rattle.std.specs.Prelude.{◌≡◌, ℕ, nat_le, Bool, true, ◌==◌, ◌&&◌, if◌then◌else◌, List, [], ◌∷◌, map, fold}
 use Rattle.std.specs.FinMap.{empty, entries}
 use Rattle.rr_text.specs.declared.limits.TheConstants.{MAX_NUMBER}
@@ -27,7 +27,7 @@ op_key (Join c) = c.key
 -- ---- a replica
 
 -- whether a replica takes an operation: a sample of its own origin under the next number or a later one, up to 2^40,
--- and a valid cell of its schema
+-- or a valid cell of its schema
 abbrev pub accepts : ReplicaState → Op → Bool
 accepts h (Put x) = x.origin == h.origin && (nat_le h.next x.number && nat_le x.number MAX_NUMBER)
 accepts h (Join c) = is_cell_of h.schema (owned_cell c)
@@ -41,7 +41,7 @@ with_op h (Join c) = with_cell h c
 abbrev pub step : ReplicaState → Op → ReplicaState
 step h op = if accepts h op then with_op h op else h
 
--- each operation is taken where its turn comes
+-- each operation is taken when its turn comes
 abbrev pub AllAccepted : ReplicaState → List Op → Type 0
 AllAccepted h [] = Unit {0}
 AllAccepted h (op ∷ ops) = (accepts h op ≡ true) × AllAccepted (step h op) ops
@@ -57,7 +57,7 @@ cell_step s m (Join c) = join_cell s m (owned_cell c).0 c.contribution
 abbrev pub outcome_of : Layout → List Op → Cells
 outcome_of s ops = fold (cell_step s) empty ops
 
--- a cell of these
+-- the cell with this name and contribution
 abbrev pub to_cell : NamedCell → Cell
 to_cell e = record { key = e.0.key; archive = e.0.archive; slot = e.0.slot; origin = e.0.origin; contribution = e.1 }
 

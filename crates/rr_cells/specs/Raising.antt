@@ -1,4 +1,4 @@
--- Once an archive with number i was added, the numbers of the archives from i on are higher by one.
+-- Names, marks and cells after an addition: once archive i is added, the numbers of those from i on are one higher.
 use Rattle.std.specs.Prelude.{ℕ, suc, ◌+◌, nat_lt, List, [], ◌∷◌, map, if◌then◌else◌}
 use Rattle.std.specs.declared.cmp.Ordering.{Ordering}
 use Rattle.std.specs.FinMap.{FinMap, entries, from_entries}
@@ -40,7 +40,7 @@ raised_cells a m = renamed (raised_name a) m
 
 -- ---- an upgrade
 
--- the archives with one more, before the first that has more steps
+-- the archives with one more, inserted before the first that has more steps
 abbrev pub with_archive : ArchiveSpec → List ArchiveSpec → List ArchiveSpec
 with_archive a [] = a ∷ []
 with_archive a (b ∷ bs) = if nat_lt a.steps b.steps then a ∷ b ∷ bs else b ∷ with_archive a bs

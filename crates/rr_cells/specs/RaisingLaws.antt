@@ -27,21 +27,21 @@ abbrev pub RaisedIsLive : Type 0
 RaisedIsLive = (a : Addition) (s : Layout) (k : Knowledge) → IsAddition s a
     → live s (raised_knowledge a k) ≡ raised_knowledge a (live (older s a) k)
 
--- and none of them is in the archive that was added
+-- and no known mark is in the archive that was added
 abbrev pub NoneInTheAdded : Type 0
 NoneInTheAdded = (i : ℕ) (k : Knowledge) (m : Mark) → IsTrue (knows (raised_knowledge (Archive i) k) m) → m.archive ≢ i
 
--- what it makes are the cells that it made, with the numbers of their archives raised
+-- a raised knowledge makes the cells that it made before, with the numbers of their archives raised
 abbrev pub RaisedMakesRaisedCells : Type 0
 RaisedMakesRaisedCells = (a : Addition) (s : Layout) (k : Knowledge) → IsAddition s a
     → cells_of_knowledge s (raised_knowledge a k) ≡ raised_cells a (cells_of_knowledge (older s a) k)
 
--- a cell of the schema before is one of the schema after
+-- a cell of the older schema, raised, is one of the schema
 abbrev pub RaisedIsCell : Type 0
 RaisedIsCell = (a : Addition) (s : Layout) (e : NamedCell) → IsAddition s a → IsCellOf (older s a) e
     → IsCellOf s (raised_cell a e)
 
--- to trim cells, and to join them, is the same before and after
+-- trimming cells, or joining them, and then raising them is the same as raising them first
 abbrev pub TrimmedIsRaised : Type 0
 TrimmedIsRaised = (a : Addition) (s : Layout) (m : Cells) → IsAddition s a
     → trimmed (is_live s) (raised_cells a m) ≡ raised_cells a (trimmed (is_live (older s a)) m)
@@ -50,17 +50,17 @@ abbrev pub JoinIsRaised : Type 0
 JoinIsRaised = (a : Addition) (s : Layout) (m n : Cells) → IsAddition s a
     → join s (raised_cells a m) (raised_cells a n) ≡ raised_cells a (join (older s a) m n)
 
--- so what is joined of cells that were read, in order, is what was joined of them, raised
+-- so it is for joining a list of cells, in order
 abbrev pub JoinCellsIsRaised : Type 0
 JoinCellsIsRaised = (a : Addition) (s : Layout) (m : Cells) (es : List NamedCell) → IsAddition s a
     → join_cells s (raised_cells a m) (map (raised_cell a) es) ≡ raised_cells a (join_cells (older s a) m es)
 
--- and cells in order stay in order
+-- and raised cells are in order exactly if they were before
 abbrev pub OrderIsKept : Type 0
 OrderIsKept = (a : Addition) (es : List NamedCell)
     → is_sorted cell_name_cmp (map (raised_cell a) es) ≡ is_sorted cell_name_cmp es
 
--- the archives with one more have one archive more
+-- with an archive inserted, a schema has one archive more, under the number of its place
 abbrev pub UpgradeAdds : Type 0
 UpgradeAdds = (t : Layout) (a : ArchiveSpec) → HasAdded (place_for a t.archives)
     (record { step = t.step; archives = with_archive a t.archives }) t

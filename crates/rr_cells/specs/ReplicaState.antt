@@ -26,7 +26,7 @@ pub record ReplicaState : Type 0 where
 abbrev pub next_sample : ReplicaState → List ℕ → ℤ → ℤ → Sample
 next_sample h key time value = record { time = time; origin = h.origin; number = h.next; key = key; value = value }
 
--- with a sample put; the next one takes the number after its
+-- with a sample put; the next one takes the number that follows
 abbrev pub with_sample : ReplicaState → Sample → ReplicaState
 with_sample h x = record {
   schema = h.schema;
@@ -39,9 +39,9 @@ with_sample h x = record {
 abbrev pub with_put : ReplicaState → List ℕ → ℤ → ℤ → ReplicaState
 with_put h key time value = with_sample h (next_sample h key time value)
 
--- a next number is left or was the last, no cell is past the horizon, each is one of the schema's and within bounds,
--- those of the replica's own origin are of earlier numbers, and in each archive of each key there are at most as many
--- as its rows times the origins that have one there
+-- schema and origin are within their limits, the next number is from 1 to one past the last, no cell is past the
+-- horizon, each is one of the schema's and within bounds, those of the replica's own origin have versions before the
+-- next number, and each archive of each key has at most as many cells as its rows times the origins that have one there
 pub record IsReplicaState (h : ReplicaState) : Type 0 where
   pub layout : IsLayout h.schema
   pub origin : IsOrigin h.origin

@@ -1,4 +1,4 @@
--- What a consolidation function makes of the samples of a row.
+-- The value that a consolidation function gives for the samples of a row.
 use Rattle.std.specs.Prelude.{ℕ, ℤ, pos, Bool, ◌&&◌, List, map, length, Option, Some, None, ◌==◌, if◌then◌else◌}
 use Rattle.std.specs.List.{filter, list_any, range_with_len}
 use Rattle.std.specs.Option.{option_map}
@@ -14,7 +14,7 @@ use Rattle.rr_cells.specs.CellNames.{CellName, is_of}
 use Rattle.rr_cells.specs.Samples.{Mark, mark_cmp, name_of}
 use Rattle.rr_cells.specs.Knowledge.{Knowledge, live}
 
--- floor(total / count), if there is one to count
+-- floor(total / count), or none if the count is 0
 abbrev pub average : ℤ → ℕ → Option ℤ
 average total count = if count == 0 then None else Some (int_div_euclid total (pos count))
 
@@ -22,7 +22,7 @@ average total count = if count == 0 then None else Some (int_div_euclid total (p
 abbrev pub last_of : List Mark → Option Mark
 last_of ms = greatest mark_cmp ms
 
--- what the function makes of the values of these marks
+-- what the function gives for the values of these marks
 abbrev pub of_marks : ConsolidationFunction → List Mark → Option ℤ
 of_marks Average ms = average (int_sum (map (λ m. m.value) ms)) (length ms)
 of_marks Min ms = greatest (flip_args int_cmp) (map (λ m. m.value) ms)
@@ -33,7 +33,7 @@ of_marks Last ms = option_map (λ m. m.value) (last_of ms)
 abbrev pub places_where : (ℕ → Bool) → ℕ → ℕ
 places_where test steps = length (filter test (range_with_len 0 steps))
 
--- whether the cell is of this slot of this archive of this key
+-- whether the cell belongs to this slot of this archive of this key
 abbrev pub is_at : List ℕ → ℕ → ℤ → CellName → Bool
 is_at key archive slot n = is_of key archive n && int_eq n.slot slot
 
@@ -46,7 +46,7 @@ abbrev pub known_places : Layout → ℕ → List Mark → ℕ
 known_places s archive ms = places_where (λ p. list_any (λ m. place_of s m.archive m.time == p) ms)
     (archive_at s archive).steps
 
--- the row of a slot; None is unknown
+-- the row of a slot; None if it is unknown
 unfoldable pub row : Layout → Knowledge → List ℕ → ℕ → ℤ → ConsolidationFunction → Option ℤ
 row s k key archive slot f =
     let ms = marks_of_row s k key archive slot in

@@ -1,4 +1,4 @@
--- The cells that a knowledge makes: at each name what its live marks contribute together.
+-- The cells that a knowledge makes: at each name, what its live marks contribute together.
 use Rattle.std.specs.Prelude.{◌≡◌, List, map, Option}
 use Rattle.std.specs.FinMap.{keys}
 use Rattle.rr_schema.specs.Schema.{Layout, IsLayout}
@@ -18,7 +18,7 @@ value_of s ms = contribution_of (map (slot_sample_of s) ms)
 unfoldable pub cells_of_knowledge : Layout → Knowledge → Cells
 cells_of_knowledge s k = map_of (names s k) (λ n. value_of s (keys (cell s k n)))
 
--- to put a sample that is ahead of what is known is to know it too
+-- putting a sample that is ahead of what is known gives the cells of what is known with it
 abbrev pub PutIsOneSampleMore : Type 0
 PutIsOneSampleMore =
     (s : Layout) (k : Knowledge) (x : Sample) → IsLayout s → IsAheadOf x k

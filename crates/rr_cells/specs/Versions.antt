@@ -6,7 +6,7 @@ use Rattle.rr_contrib.specs.declared.contribution.Contribution.{Contribution}
 use Rattle.rr_cells.specs.CellNames.{CellName}
 use Rattle.rr_cells.specs.Cells.{Cells}
 
--- whether the first has a greater version than the second, or there is no second
+-- whether there is a first, and either no second or one with a smaller version
 abbrev pub is_newer : Option Contribution → Option Contribution → Bool
 is_newer None b = false
 is_newer (Some a) None = true

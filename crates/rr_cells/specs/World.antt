@@ -31,7 +31,7 @@ IsNext w x = (y : Sample) → IsWritten w y → y.origin ≡ x.origin → y.numb
 abbrev pub IsMarkOf : Layout → World → Mark → Type 0
 IsMarkOf s w m = IsWritten w m.sample × (m.archive < length s.archives)
 
--- what is known was written, and with a live mark each earlier one of its cell is known
+-- what is known was written, and with each live mark, all earlier ones of its cell are known
 pub record IsClosed (s : Layout) (w : World) (k : Knowledge) : Type 0 where
   pub written : (m : Mark) → IsTrue (knows k m) → IsMarkOf s w m
   pub earlier : (m other : Mark) → IsTrue (knows (live s k) m) → IsMarkOf s w other → name_of s other ≡ name_of s m

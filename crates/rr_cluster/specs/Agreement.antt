@@ -40,11 +40,11 @@ in_cells m = record {
   world = m.world;
 }
 
--- a state, if the schema is set, in cells, with what is printed
+-- a state in cells, if the schema is set, with what is printed
 abbrev pub step_in_cells : Option (State Knowledge) × List ℕ → Option (State Cells) × List ℕ
 step_in_cells done = (option_map in_cells done.0, done.1)
 
--- in a sound state of samples, turned into cells, each command leaves the same, turned into cells, and prints the same
+-- from a sound state each command does the same, whether its samples are turned into cells before or after the command
 abbrev pub CommandsAgree : Type 0
 CommandsAgree = (m : Option (State Knowledge)) (command : Command) → IfSome m IsSound
     → step cell_model (option_map in_cells m) command ≡ on_ok step_in_cells (step sample_model m command)

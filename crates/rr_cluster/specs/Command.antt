@@ -26,7 +26,7 @@ abbrev pub archive_words : Option (Bor (List ℕ)) → List (List ℕ)
 archive_words None = []
 archive_words (Some words) = words_of words.now
 
--- the number of bytes left of the words of the archives, and one more if there are words
+-- how many bytes are left of the words of the archives, and one more if there are words
 abbrev pub bytes_left : Option (Bor (List ℕ)) → ℕ
 bytes_left None = 0
 bytes_left (Some words) = length words.now + 1

@@ -73,7 +73,7 @@ fetch_command (name ∷ function ∷ resolution ∷ start ∷ end ∷ key ∷ re
     }))
 fetch_command _ = None
 
--- the command of its name and the words after it, if it is one that copies or prints what nodes have
+-- the command with this name and these words after it, if it is one that copies or prints what nodes have
 abbrev pub copying_command : List ℕ → List (List ℕ) → Option Command
 copying_command name words =
     if pointwise nat_eq name (codes "page") then page_command words

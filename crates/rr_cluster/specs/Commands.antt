@@ -33,7 +33,7 @@ use Rattle.rr_cluster.specs.Commands.Fetch.{answer_to}
 use Rattle.rr_cluster.specs.Model.{Model}
 use Rattle.rr_cluster.specs.State.{State, first_state}
 
--- f of an answer; a refusal stays
+-- f of an answer; a refusal stays as it is
 abbrev pub on_ok : {A B : Type 0} → (A → B) → Result A CommandFault → Result B CommandFault
 on_ok f (Ok x) = Ok (f x)
 on_ok f (Err fault) = Err fault
@@ -52,7 +52,7 @@ module _ {K : Type 0} where
   printing m text = (Some m, text)
 
 module _ {K : Type 0} (model : Model K) where
-  -- the state that a command leaves, with what it prints: `schema` comes first, and only once
+  -- the state that a command leaves, and what it prints: `schema` comes first, and only once
   abbrev pub step : Option (State K) → Command → Result (Option (State K) × List ℕ) CommandFault
   step None (schema seconds archives) = on_ok beginning (layout_of seconds archives)
   step None command = Err NoSchema

@@ -37,7 +37,7 @@ use Rattle.rr_cluster.specs.Stop.{Matches}
 abbrev pub node_of : ReplicaState → Node Cells
 node_of h = record { schema = h.schema; origin = h.origin; next = h.next; contents = h.cells }
 
--- a replica, as a node: where it has room is its own affair
+-- a replica as a node, wherever it has room
 abbrev pub node_in : ReplicaWithRoom → Node Cells
 node_in r = node_of (replica_state r)
 
@@ -103,7 +103,7 @@ module _ {A : Type 0} {g : Ghosts A} where
     pub are_kept : (name : List ℕ) (x : Snapshot Cells) → get m.snapshots name ≡ Some x → IsKept x
     pub origins : HasOrigins c.origins m.origins
 
-  -- there is a cluster once there is a state
+  -- there is a cluster that represents the state once there is a state
   abbrev pub OptionRepresents : Option (Cluster A g) → Option (State Cells) → Type 0
   OptionRepresents None None = Unit {0}
   OptionRepresents (Some c) (Some m) = Represents c m

@@ -18,9 +18,9 @@ use Rattle.rr_fetch.specs.Answers.{cells_text}
 use Rattle.rr_cluster.specs.State.{Node}
 
 -- what commands do with what a node holds: it starts with nothing, takes in a sample, and answers a request; a page is
--- a part of it, or of what it has and another lacks, from an offset on and up to a count of cells; a node takes in what a
--- page holds; a snapshot keeps what
--- counts, and is loaded with the numbers of archives raised; and pages and snapshots are written as cells
+-- a part of it, or of what it has and another lacks, from an offset on and up to a count of cells; a node takes in what
+-- a page holds; a snapshot keeps what counts, and is loaded with the numbers of archives raised; and pages and
+-- snapshots are written as cells
 pub record Model (K : Type 0) : Type 0 where
   pub nothing : K
   pub with_one : Layout → K → Sample → K
@@ -34,7 +34,7 @@ pub record Model (K : Type 0) : Type 0 where
 
 -- ---- samples
 
--- a part of what the first knows and the second lacks: the whole cells of so many names from an offset on
+-- a part of what the first knows and the second lacks: the whole cells of at most this many names, from an offset on
 abbrev pub part_of_difference : Layout → Knowledge → Knowledge → ℕ → ℕ → Knowledge
 part_of_difference s k l from count = cells_named s k (take count (drop from (difference s k l)))
 
@@ -58,11 +58,11 @@ sample_model = record {
 
 -- ---- cells
 
--- the cells from an offset on, as many as there are up to a count
+-- the cells from an offset on, at most a count of them
 abbrev pub part_of : Cells → ℕ → ℕ → Cells
 part_of m from count = from_entries (take count (drop from (entries m)))
 
--- those of them that are newer than the cells of another, by their versions
+-- so for those that are newer than the cells of another, by their versions
 abbrev pub newer_part_of : Cells → Cells → ℕ → ℕ → Cells
 newer_part_of m n from count = from_entries (take count (drop from (newer_cells (versions_of n) (entries m))))
 

@@ -19,8 +19,8 @@ use Rattle.rr_cluster.specs.Output.{after_line}
 use Rattle.rr_cluster.specs.Script.{commands_of}
 use Rattle.rr_cluster.specs.State.{Node, Snapshot, State, first_state}
 
--- what a node knows has no gaps, it knows all that was written under its origin, and its next number is past those;
--- where no number is left, the next is past the last
+-- what a node knows has no gaps, it knows all that was written under its origin, and its next number is past those; if
+-- no number is left, the next is past the last
 pub record IsSoundNode (w : World) (n : Node Knowledge) : Type 0 where
   pub closed : IsClosed n.schema w n.contents
   pub own : HoldsAllOf n.schema w n.contents n.origin
@@ -37,9 +37,9 @@ pub record IsSoundSnapshot (w : World) (x : Snapshot Knowledge) : Type 0 where
   pub layout : IsLayout x.schema
   pub closed : IsClosed x.schema w x.contents
 
--- the schema is within its limits, the nodes have it and are sound, and each has an origin of its own that the script
--- used; what a page or a snapshot holds has no gaps; each sample that was written is sound, and of an origin that the
--- script used
+-- the schema and the clock are within their limits, the nodes have the schema and are sound, and each has an origin of
+-- its own that the script used; used origins are within their limits; what a page or a snapshot holds has no gaps; each
+-- sample that was written is sound, and of an origin that the script used
 pub record IsSound (m : State Knowledge) : Type 0 where
   pub layout : IsLayout m.schema
   pub clock : IsTrue (fits_i64 m.clock)

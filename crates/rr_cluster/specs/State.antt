@@ -44,10 +44,10 @@ first_state s = record {
   world = empty;
 }
 
--- with a node under a name, whose origin is used from then on; it takes the place of one of that name
+-- with a node under a name, whose origin is used from then on; it replaces one of that name
 abbrev pub with_node : {K : Type 0} → State K → List ℕ → Node K → State K
 with_node m name n = record m { nodes = insert m.nodes name n; origins = n.origin ∷ m.origins }
 
--- with a page under a name; it takes the place of one of that name
+-- with a page under a name; it replaces one of that name
 abbrev pub with_page : {K : Type 0} → State K → List ℕ → K → State K
 with_page m name page = record m { pages = insert m.pages name page }

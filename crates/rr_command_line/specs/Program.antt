@@ -15,7 +15,7 @@ abbrev pub check_lines_app : App
 check_lines_app = with_rule (with_rule (new_app (codes "check-lines")) (option_rule (codes "precision")))
     (option_rule (codes "now"))
 
--- NAME, which has to be there
+-- NAME, which is required
 abbrev pub needed_rule : Text → Rule
 needed_rule name = record (new_rule name) { required = true }
 
@@ -47,11 +47,11 @@ node_app = with_rule bare_node_app (option_rule (codes "load"))
 abbrev pub journal_app : App
 journal_app = with_rule (with_rule (new_app (codes "journal")) (needed_rule (codes "WHAT"))) (needed_rule (codes "DIR"))
 
--- the words are those after the program's name, and it has a version to tell
+-- the words are those after the program's name, and it has a version to print
 abbrev pub bare_app : App
 bare_app = record { top = record (new_app (codes "rr")).top { no_binary_name = true; has_version = true }; subs = [] }
 
--- with the command of scripts
+-- with the command for scripts
 abbrev pub script_command_app : App
 script_command_app = with_subcommand bare_app sim_app.top
 

@@ -44,7 +44,7 @@ config_view c = record {
   status = option_map string_bytes c.status;
 }
 
--- the configuration of a table: the schema, and then the other keys, each through its faults; other keys are ignored
+-- the configuration of a table: the schema, and then its other keys, each with its faults; any further keys are ignored
 unfoldable pub config_in : Members → Result ConfigView ConfigFault
 config_in table = do
   schema ← of_schema (layout_in table)

@@ -11,7 +11,7 @@ use Rattle.rr_config.specs.Fault.{of_schema_fault}
 abbrev pub members_of : List ℕ → Result Members ConfigFault
 members_of text = ok_or (table_of text) (of_schema_fault BadToml)
 
--- a step of a schema as one of the configuration
+-- a result for a schema as one for the configuration
 abbrev pub of_schema : {A : Type 0} → Result A SchemaFault → Result A ConfigFault
 of_schema (Ok x) = Ok x
 of_schema (Err fault) = Err (of_schema_fault fault)

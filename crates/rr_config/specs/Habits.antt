@@ -22,7 +22,7 @@ habits_view h = record {
   status = option_map string_bytes h.status;
 }
 
--- the habits of the node of a table
+-- the habits that a table gives a node
 unfoldable pub habits_in : Members → Result HabitsView ConfigFault
 habits_in table = do
   idle ← if_there None some_seconds_of (get_member (codes "idle") table)

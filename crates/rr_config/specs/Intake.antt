@@ -1,4 +1,4 @@
--- What the node of a configuration takes.
+-- What a configuration lets a node take.
 use Rattle.std.specs.Prelude.{codes, None, Result, Ok}
 use Rattle.toml.specs.Data.{Members, get_member}
 use Rattle.rr_text.specs.Results.{◌>>=◌}
@@ -7,7 +7,7 @@ use Rattle.rr_config.specs.declared.intake.Intake.{Intake}
 use Rattle.rr_config.specs.declared.fault.ConfigFault.{ConfigFault}
 use Rattle.rr_config.specs.Values.{if_there, count_of, some_count_of, precision_of}
 
--- what the node of a table takes
+-- what a table lets a node take
 unfoldable pub intake_in : Members → Result Intake ConfigFault
 intake_in table = do
   rounds ← if_there 0 count_of (get_member (codes "rounds") table)

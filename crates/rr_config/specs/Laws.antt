@@ -1,4 +1,4 @@
--- What every configuration keeps to, and what it depends on.
+-- The limits that every configuration is within, and what it depends on.
 use Rattle.std.specs.Prelude.{◌≡◌, ℕ, ◌≤◌, List, [], ◌∷◌, codes, length, IfSome, Ok}
 use Rattle.std.specs.List.{AllByRecursion}
 use Rattle.toml.specs.Data.{Members, get_member}
@@ -21,7 +21,7 @@ pub record IsWithinLimits (c : ConfigView) : Type 0 where
 abbrev pub ConfigsAreWithinLimits : Type 0
 ConfigsAreWithinLimits = (table : Members) (c : ConfigView) → config_in table ≡ Ok c → IsWithinLimits c
 
--- a node has a range of origins, and threads that answer fetches
+-- a node has a range of origins, waits for a limited time, and has threads that answer fetches
 pub record IsWithinNodeLimits (c : NodeConfigView) : Type 0 where
   pub first : IsOrigin c.origins.first
   pub last : IsOrigin c.origins.last

@@ -48,7 +48,7 @@ reader_count_of value = do
   readers ← count_of value
   unless BadCount (not (nat_le 1 readers && nat_le readers MAX_NODE_READERS)) (Ok readers)
 
--- the node's configuration of a table: the schema, and then the other keys, each through its faults; other keys are
+-- the node's configuration of a table: the schema, and then its other keys, each with its faults; any further keys are
 -- ignored
 unfoldable pub node_config_in : Members → Result NodeConfigView ConfigFault
 node_config_in table = do

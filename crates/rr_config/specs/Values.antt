@@ -14,7 +14,7 @@ abbrev pub needed : {A : Type 0} → (Data → Result A ConfigFault) → Option 
 needed read None = Err MissingField
 needed read (Some value) = read value
 
--- a key that may be missing, and what then stands in its place
+-- a key that may be missing, and the default in its place
 abbrev pub if_there : {A : Type 0} → A → (Data → Result A ConfigFault) → Option Data → Result A ConfigFault
 if_there default read None = Ok default
 if_there default read (Some value) = read value
@@ -82,14 +82,14 @@ origin_of value = do
   number ← count_of value
   unless BadCount (not (nat_le 1 number && nat_le number MAX_ORIGIN)) (Ok number)
 
--- two origins, of which the first isn't above the second
+-- two origins, the first not above the second
 abbrev pub range_between : Data → Data → Result RangeView ConfigFault
 range_between least greatest = do
   first ← origin_of least
   last ← origin_of greatest
   unless BadCount (not (nat_le first last)) (Ok (record { first = first; last = last }))
 
--- the range of two values, of no more and no fewer
+-- the range of exactly two values
 abbrev pub range_in : Items → Result RangeView ConfigFault
 range_in (item least (item greatest no_items)) = range_between least greatest
 range_in values = Err BadCount
@@ -99,7 +99,7 @@ abbrev pub are_whole : Items → Bool
 are_whole no_items = true
 are_whole (item value values) = is_some (as_integer value) && are_whole values
 
--- an array of whole numbers, which are a range
+-- an array of whole numbers that are a range
 abbrev pub range_of : Data → Result RangeView ConfigFault
 range_of value = do
   values ← of_kind (as_array value)

@@ -47,7 +47,7 @@ of_one x = record {
   mask = 2 ^ x.place;
 }
 
--- the contribution with a sample more, which is newer than all that it has
+-- the contribution with one more sample, which is newer than all that it has
 abbrev pub with_sample : Contribution → SlotSample → Contribution
 with_sample c x = record {
   version = x.number;
@@ -60,7 +60,7 @@ with_sample c x = record {
   mask = bit_or c.mask (2 ^ x.place);
 }
 
--- the contribution of a cell with a sample more; an empty cell has none before
+-- the contribution of a cell with one more sample; an empty cell had none before
 abbrev pub contribution_with : Option Contribution → SlotSample → Contribution
 contribution_with None x = of_one x
 contribution_with (Some c) x = with_sample c x

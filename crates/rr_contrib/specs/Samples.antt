@@ -8,7 +8,7 @@ use Rattle.rr_join.specs.Sums.{int_sum}
 use Rattle.rr_contrib.specs.declared.contribution.Contribution.{Contribution}
 use Rattle.rr_contrib.specs.Contributions.{SlotSample}
 
--- by time, and at one time by number; no two samples of an origin tie further
+-- by time, and at one time by number; no two samples of an origin tie beyond that
 abbrev pub sample_cmp : SlotSample → SlotSample → Ordering
 sample_cmp a b =
     ordering_then (int_cmp a.time b.time)
@@ -38,7 +38,7 @@ summary xs = record {
   mask = mask_of (map (λ x. x.place) xs);
 }
 
--- the contribution of some samples; none contribute nothing
+-- the contribution of some samples; there is none without a sample
 abbrev pub contribution_of : List SlotSample → Option Contribution
 contribution_of [] = None
 contribution_of (x ∷ xs) = Some (summary (x ∷ xs))

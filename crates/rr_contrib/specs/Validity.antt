@@ -17,15 +17,16 @@ pub record IsBounded (c : Contribution) : Type 0 where
   pub low : (pos c.count *ℤ c.min) ≤ℤ c.sum
   pub high : c.sum ≤ℤ (pos c.count *ℤ c.max)
 
--- one to which a sample with this number can be added: the number is greater, and the sum has room
+-- one that a sample with this number can be added to: the number is greater, there are no more samples than numbers,
+-- and the sum has room
 pub record CanAdd (number : ℕ) (c : Contribution) : Type 0 where
   pub newer : c.version < number
   pub counted : c.count ≤ c.version
   pub low : (pos c.count *ℤ c.min) ≤ℤ c.sum
   pub high : c.sum ≤ℤ (pos c.count *ℤ c.max)
 
--- a bounded contribution whose last time lies in the slot, and whose mask has places of the
--- slot: that of the last time, and no more than there are samples
+-- a bounded contribution whose last time lies in the slot, and whose mask has only places of the slot, that of the last
+-- time among them, and no more than there are samples
 pub record IsValid (s : Layout) (archive : ℕ) (slot : ℤ) (c : Contribution) : Type 0 where
   pub bounded : IsBounded c
   pub open bounded use *

@@ -15,7 +15,7 @@ IsSummary summary = IsTrue (is_sorted cell_name_cmp summary)
 abbrev pub version_in : List NamedVersion → CellName → Option ℕ
 version_in summary n = find cell_name_cmp n summary
 
--- whether a version is greater than this one, or there is none
+-- whether a version is greater than the known one, or none is known
 abbrev pub is_newer_than : Option ℕ → ℕ → Bool
 is_newer_than None version = true
 is_newer_than (Some known) version = nat_lt known version
@@ -26,7 +26,7 @@ newer_cells summary es = filter (λ e. is_newer_than (version_in summary e.0) e.
 
 -- ---- the walk along a summary
 
--- a cell, if its version is greater than the one that is known, or none is
+-- a cell, if its version is greater than the known one, or none is known
 abbrev pub newer_cell : Option ℕ → NamedCell → List NamedCell
 newer_cell known e = if is_newer_than known e.1.version then e ∷ [] else []
 

@@ -1,4 +1,4 @@
--- What a replica is that has joined cells.
+-- A replica that has joined cells.
 use Rattle.std.specs.Prelude.{◌≡◌, List, [], ◌∷◌, ◌++◌, map, refl}
 use Rattle.std.proofs.Common.{◌∙◌, ap, sym}
 use Rattle.std.proofs.lemmas.List.{map-append}
@@ -9,7 +9,7 @@ use Rattle.rr_cells.specs.Joins.{join_cells}
 use Rattle.rr_cells.specs.Operations.{to_cell}
 use Rattle.rr_cells.proofs.JoiningLemmas.{with_cells-append}
 
--- it has joined these, in order, and is else as before
+-- it has joined these, in order, and is otherwise as before
 abbrev pub HasJoined : ReplicaState → ReplicaState → List NamedCell → Type 0
 HasJoined old new es = new ≡ with_cells old (map to_cell es)
 

@@ -25,11 +25,11 @@ named_version e = (e.0, e.1.version)
 abbrev pub versions_of : Cells → List NamedVersion
 versions_of m = map named_version (entries m)
 
--- a name that owns its key, so seen
+-- a name that owns its key, as one of these
 abbrev pub owned_name : Name → NamedVersion
 owned_name n = (record { key = n.key; archive = n.archive; slot = n.slot; origin = n.origin }, n.version)
 
--- the name alone of one that is lent, if one is
+-- a borrowed one without its version, if there is one
 abbrev pub name_in : Option (Bor Name) → Option CellName
 name_in lent = option_map (λ n. (owned_name n.now).0) lent
 

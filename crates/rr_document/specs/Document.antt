@@ -20,7 +20,7 @@ abbrev pub of_kind : {A : Type 0} → Option A → Result A SchemaFault
 of_kind None = Err WrongKind
 of_kind (Some value) = Ok value
 
--- a whole number that doesn't fit 32 bits is the greatest one that does, which is past each limit
+-- a whole number that doesn't fit 32 bits becomes the greatest one that does, which is past each limit
 abbrev pub in_32_bits : ℤ → ℕ
 in_32_bits (pos n) = if nat_lt n (2 ^ 32) then n else 2 ^ 32 - 1
 in_32_bits (negsuc n) = 2 ^ 32 - 1

@@ -1,7 +1,7 @@
 -- A clock over memory, and the moments that it gives.
 use Rattle.std.specs.Prelude.{ℕ, zero, suc, ◌-◌, ◌^◌, ◌==◌, ℤ, pos, List, [], ◌∷◌, ◌++◌, Option, None, Some, if◌then◌else◌}
 
--- the moment at a place, or the last one past the end; 0 where there is none
+-- the moment at a place, or the last one past the end; 0 if there are none
 abbrev pub moment_at : List ℤ → ℕ → ℤ
 moment_at [] place = pos 0
 moment_at (moment ∷ []) place = moment
@@ -20,6 +20,6 @@ pub record MomentsState : Type 0 where
   pub asked : ℕ
   pub renewals : ℕ
 
--- what such a clock gave, as long as the times it was asked are counted
+-- what such a clock gave, until the count of times it was asked is at its greatest
 abbrev pub given_by : MomentsState → Option (List ℤ)
 given_by c = if c.asked == 2 ^ 64 - 1 then None else Some (first_moments c.moments c.asked)

@@ -8,7 +8,7 @@ use Rattle.rr_host.specs.Calls.{DialCall, due, handed_back, reached, unreached}
 use Rattle.rr_fakes.specs.Log.{HasNoted, Log}
 use Rattle.rr_host.specs.Streams.{new_stream, stream_of}
 
--- a peer: its address, and the bytes that it sends, or none where it can't be reached
+-- a peer: its address, and the bytes that it sends, or none if it can't be reached
 pub record Peer : Type 0 where
   pub address : List ℕ
   pub sends : Option (List ℕ)
@@ -31,7 +31,7 @@ abbrev pub sent_by : Option Peer → Option (List ℕ)
 sent_by None = None
 sent_by (Some peer) = peer.sends
 
--- the call that reaches a peer which sends these bytes, or can't reach it
+-- the call that reaches a peer that sends these bytes, or can't reach it
 abbrev pub call_by : List ℕ → Option (List ℕ) → DialCall
 call_by address None = unreached address
 call_by address (Some bytes) = reached address (new_stream bytes)
@@ -42,7 +42,7 @@ due_call peer = due peer.address
 abbrev pub call_to : Peer → DialCall
 call_to peer = call_by peer.address peer.sends
 
--- a call about a peer was noted; one about an address that no peer has can't be
+-- a call about a peer was noted; one about an address that no peer has can't be, and then the calls are unknown
 abbrev pub NotesCall : (Peer → DialCall) → Option Peer → Log DialCall → Log DialCall → Type 0
 NotesCall call None old new = new.calls ≡ None
 NotesCall call (Some peer) old new = HasNoted (call peer) old new

@@ -27,7 +27,7 @@ pub record Notes (call : ShelfCall) (old new : ShelfState) : Type 0 where
 abbrev pub new_output : Output
 new_output = record { written = Some []; failures = 0 }
 
--- the call that opens this; once all is used no snapshot is wanted
+-- the call that opens this; once all are used, no snapshot is wanted
 abbrev pub opening_of : Option PreparedOpening → ShelfCall
 opening_of (Some prepared.Writer) = opened new_output
 opening_of (Some prepared.Unwanted) = unwanted
@@ -41,7 +41,7 @@ next_call s = opening_of (slice_get s.openings s.place)
 abbrev pub next_place : ShelfState → ℕ
 next_place s = if nat_lt s.place (length s.openings) then s.place + 1 else s.place
 
--- the call that was answered so
+-- the call with this answer
 abbrev pub opening_call : {W : Type 0} → (Counted W → Output) → Opening W → ShelfCall
 opening_call output (opening.Writer writer) = opened (output writer)
 opening_call output opening.Unwanted = unwanted

@@ -6,14 +6,13 @@ use Rattle.rr_fakes.specs.Log.{HasNoted, Log}
 use Rattle.rr_host.specs.Streams.{new_stream, stream_of}
 use Rattle.rr_host.specs.Visits.{Call, Differs, Gave, Failed, Over, TookBack}
 
--- connections that are prepared: the bytes that each brings, or none for one that fails; which comes next; and the
--- calls
+-- prepared connections: the bytes that each brings, or none for one that fails; which comes next; and the calls
 pub record PreparedState : Type 0 where
   pub inputs : List (Option (List ℕ))
   pub place : ℕ
   pub log : Log Call
 
--- before the first call: there is room for three of each connection and one more
+-- before the first call: there is room for three calls of each connection and one more
 abbrev pub at_start : List (Option (List ℕ)) → PreparedState
 at_start inputs = record {
   inputs = inputs;

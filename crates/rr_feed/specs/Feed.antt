@@ -13,15 +13,15 @@ pub record FeedState : Type 0 where
 abbrev pub state : List ℕ → Bool → Bool → FeedState
 state left skipping ended = record { left = left; skipping = skipping; ended = ended }
 
--- nothing was pushed yet
+-- nothing has been pushed yet
 abbrev pub empty_feed : FeedState
 empty_feed = state [] false false
 
--- the items of what is left: what is left of a line that is skipped is none
+-- the items of what is left; the rest of a line that is skipped is none
 abbrev pub items_left : FeedState → List Item
 items_left s = items_of s.ended (if s.skipping then drop 1 (pieces s.left) else pieces s.left)
 
--- the same feed once more bytes came, which end the stream or not
+-- the same feed after more bytes, which may end the stream
 abbrev pub with_more : FeedState → List ℕ → Bool → FeedState
 with_more s more ended = state (s.left ++ more) s.skipping ended
 
@@ -34,8 +34,8 @@ abbrev pub item_list : Option Item → List Item
 item_list None = []
 item_list (Some item) = item ∷ []
 
--- What is handed out is the first of the items, whatever comes, and the others are left. Nothing is
--- handed out only where there is none yet, and then no more is held than a line may have.
+-- What is handed out is the first of the items, whatever comes, and the others are left. Nothing is handed out only if
+-- there is no item yet, and then no more is held than a line may have.
 pub record HandsOut (old : FeedState) (item : Option Item) (new : FeedState) : Type 0 where
   pub first : (more : List ℕ) (ended : Bool) → MayCome old more ended
       → items_left (with_more old more ended) ≡ item_list item ++ items_left (with_more new more ended)

@@ -1,4 +1,4 @@
--- What the code hands out at once.
+-- What the code hands out in one step.
 use Rattle.std.specs.Prelude.{ℕ, Bool, List, option_map}
 use Rattle.rr_feed.specs.declared.next.Next.{Next}
 use Rattle.rr_feed.specs.Items.{item_view}

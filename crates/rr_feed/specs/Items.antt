@@ -25,8 +25,8 @@ pieces bytes = slice_split (λ byte. byte == LINE_FEED) bytes
 abbrev pub item_of : List ℕ → Item
 item_of piece = if nat_le (length piece) MAX_LINE then Line piece else TooLong
 
--- the last piece, which no line feed ends: too long as soon as it has too many bytes, and else a
--- line at the end of the stream, unless it is empty
+-- the last piece, which no line feed ends: too long as soon as it has too many bytes, or else a line at the end of the
+-- stream, unless it is empty
 abbrev pub last_items : Bool → List ℕ → List Item
 last_items ended piece =
     if nat_lt MAX_LINE (length piece) then TooLong ∷ []
@@ -38,7 +38,7 @@ items_of ended [] = []
 items_of ended (last ∷ []) = last_items ended last
 items_of ended (piece ∷ next ∷ more) = item_of piece ∷ items_of ended (next ∷ more)
 
--- the items of the bytes that came so far, which are all of the stream or not
+-- the items of the bytes that have come so far, which may be the whole stream
 abbrev pub items : Bool → List ℕ → List Item
 items ended bytes = items_of ended (pieces bytes)
 

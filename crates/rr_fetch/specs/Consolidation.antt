@@ -1,4 +1,4 @@
--- What a consolidation function makes of the contributions to a row.
+-- The value that a consolidation function gives for the contributions to a row.
 use Rattle.std.specs.Prelude.{◌≡◌, ℕ, ℤ, pos, length, ◌<◌, ◌*◌, ◌*ℤ◌, ◌≤◌, ◌≤ℤ◌, ◌^◌, List, [], ◌∷◌, map, Option, None, IsTrue, All, neg_ℤ, ◌-◌, bit_or, count_ones, if◌then◌else◌}
 use Rattle.std.specs.List.{sum}
 use Rattle.std.specs.Option.{option_map}
@@ -21,7 +21,7 @@ abbrev pub mask_of_entries : List Entry → ℕ
 mask_of_entries [] = 0
 mask_of_entries (e ∷ es) = bit_or e.contribution.mask (mask_of_entries es)
 
--- the sum of all samples, and how many they are
+-- the sum of all samples, and how many there are
 abbrev pub total_of : List Entry → ℤ
 total_of es = int_sum (map (λ e. e.contribution.sum) es)
 
@@ -32,14 +32,14 @@ count_of es = sum (map (λ e. e.contribution.count) es)
 abbrev pub last_cmp : Entry → Entry → Ordering
 last_cmp a b = ordering_then (int_cmp a.contribution.last_time b.contribution.last_time) (nat_cmp a.origin b.origin)
 
--- what the function makes of these entries
+-- what the function gives for these entries
 abbrev pub of_entries : ConsolidationFunction → List Entry → Option ℤ
 of_entries Average es = average (total_of es) (count_of es)
 of_entries Min es = greatest (flip_args int_cmp) (map (λ e. e.contribution.min) es)
 of_entries Max es = greatest int_cmp (map (λ e. e.contribution.max) es)
 of_entries Last es = option_map (λ e. e.contribution.last_value) (greatest last_cmp es)
 
--- the row of these entries; None is unknown
+-- the row of these entries; None if it is unknown
 unfoldable pub consolidation_of : Layout → ℕ → ConsolidationFunction → List Entry → Option ℤ
 consolidation_of s archive f es = if is_known_enough s archive (count_ones (mask_of_entries es)) then of_entries f
     es else None
@@ -53,12 +53,12 @@ pub record IsSummable (c : Contribution) : Type 0 where
   pub low : (pos c.count *ℤ c.min) ≤ℤ c.sum
   pub high : c.sum ≤ℤ (pos c.count *ℤ c.max)
 
--- entries in the order of their origins, no two of one origin, each of which can be added up
+-- entries in the order of their origins, no two of one origin, whose contributions can be added up
 pub record IsRow (es : List Entry) : Type 0 where
   pub ascends : IsTrue (ascends es)
   pub summable : All (λ e. IsSummable e.contribution) es
 
--- the total of `count` values of 64 bits
+-- a total that `count` values of 64 bits can have
 pub record IsBounded (count : ℕ) (total : ℤ) : Type 0 where
   pub least : neg_ℤ (pos (count * 2 ^ 63)) ≤ℤ total
   pub most : total ≤ℤ pos (count * (2 ^ 63 - 1))

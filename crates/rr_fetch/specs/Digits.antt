@@ -7,8 +7,7 @@ pub record HasNumberRoom (end : ℕ) (buffer : List ℕ) : Type 0 where
   pub room : MAX_NUMBER_TEXT ≤ end
   pub within : end ≤ length buffer
 
--- a text was written that ends where the bytes from `end` on begin; it begins at `at`, and has no more bytes than a
--- number may have
+-- a text was written from `at` on, just before the bytes from `end` on, with no more bytes than a number may have
 pub record WritesBefore (end : ℕ) (text old new : List ℕ) (at : ℕ) : Type 0 where
   pub start : end ≤ at + MAX_NUMBER_TEXT
   pub before : at ≤ end

@@ -1,4 +1,4 @@
--- The laws, each the contract of a function of `src/laws.rt`.
+-- The laws of answers from cells, each the contract of a function of `src/laws.rt`.
 use Rattle.std.specs.Prelude.{◌≡◌, ℕ, ℤ, List}
 use Rattle.rr_schema.specs.declared.consolidation.ConsolidationFunction.{ConsolidationFunction}
 use Rattle.rr_schema.specs.Schema.{Layout, IsLayout}
@@ -11,7 +11,7 @@ use Rattle.rr_cells.specs.State.{cells_of_knowledge}
 use Rattle.rr_fetch.specs.Answers.{cells_text}
 use Rattle.rr_fetch.specs.Consolidation.{consolidation_of, IsRow}
 
--- what is consolidated from the cells of what is known is what its samples say
+-- the row consolidated from the cells of what is known is the row of its samples
 abbrev pub RowsAgree : Type 0
 RowsAgree =
     (s : Layout) (k : Knowledge) (key : List ℕ) (archive : ℕ) (slot : ℤ) (f : ConsolidationFunction) → IsLayout s

@@ -1,4 +1,4 @@
--- The text of a record, in CSV's own words.
+-- The text of a record, by the rules of CSV.
 use Rattle.std.specs.Prelude.{ℕ, List, [], ◌∷◌, ◌++◌, IsFalse}
 use Rattle.std.specs.List.{list_any}
 use Rattle.rr_cells.specs.FetchText.{comma, double_quote, field_text, is_special, line_feed}
@@ -8,8 +8,8 @@ abbrev pub rest_text : List (List ℕ) → List ℕ
 rest_text [] = line_feed ∷ []
 rest_text (field ∷ more) = comma ∷ field_text field ++ rest_text more
 
--- The fields of a record, a comma between two, and a line feed. No field and one empty field would
--- both show an empty line, which is no record: they are written as an empty field in quotes.
+-- The fields of a record, separated by commas, and a line feed. No fields and one empty field would both give an empty
+-- line, which is no record: they are written as an empty field in quotes.
 abbrev pub record_text : List (List ℕ) → List ℕ
 record_text [] = double_quote ∷ double_quote ∷ line_feed ∷ []
 record_text ([] ∷ []) = double_quote ∷ double_quote ∷ line_feed ∷ []

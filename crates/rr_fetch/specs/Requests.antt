@@ -48,7 +48,7 @@ request_of_words s bytes = do
 abbrev pub request_view : Request → text.Request
 request_view q = record { key = q.key; function = q.cf; archive = q.archive; first = q.first; rows = q.rows }
 
--- the slot in which a second falls, whose number is at most as far from 0 as the second
+-- the slot that a second falls in, which is no farther from 0 than the second
 pub record IsFirstSlot (second : ℤ) (span : ℕ) (slot : ℤ) : Type 0 where
   pub value : slot ≡ int_div_euclid second (pos span)
   pub slot_nearer : unsigned_abs slot ≤ unsigned_abs second
@@ -68,7 +68,7 @@ pub record IsFetchable (s : Layout) (q : text.Request) : Type 0 where
   pub some : 1 ≤ q.rows
   pub few : q.rows ≤ MAX_FETCH_ROWS
 
--- a request is made as a definition says, and can be answered; or memory ran out, which hides no fault
+-- a request is made as the definition says, and can be answered; or memory ran out, which hides no fault
 pub record MakesRequest (s : Layout) (result : Result Request RequestFault) (answer : Result text.Request RequestFault)
     : Type 0 where
   pub value : GivesUnless Memory request_view result answer

@@ -26,13 +26,13 @@ pub record TakesFrames {R : Type 0} (remaining : R → Option (List ℕ)) (old n
   pub failures_never_fall : KeepsFailures old new
   pub failed : result ≡ Err ReadFailed → HasFailed old new
 
--- what a call did that reads bytes after those that were there
+-- what a call that reads bytes after those that were there did
 pub record ReadsBytes {R : Type 0} (remaining : R → Option (List ℕ)) (old new : Counted R) (before after : List ℕ)
     (result : Result (Unit {0}) GossipFault) : Type 0 where
   pub read : OnOk result (Grows (remaining (inner_of old)) (remaining (inner_of new)) before after)
   pub stream : TakesFrames remaining old new result
 
--- what a call did with the writer that it sends these frames to, and at most `limit` of them
+-- what a call did with the writer that it sends these frames to, at most `limit` of them
 pub record SendsFrames {W : Type 0} (contents : W → Option (List ℕ)) (old new : Counted W) (limit : ℕ)
     (frames : List (List ℕ)) (result : Result (Unit {0}) GossipFault) : Type 0 where
   pub whole : OnOk result (WritesWhole contents old new (concat frames))
@@ -69,8 +69,8 @@ pub record HearsNames {R S : Type 0} (layout : S → Layout) (cells : S → Cell
   pub limit : OnOk result (last.limit ≡ first.limit)
   pub stream : TakesFrames remaining input input_new result
 
--- the next frame was made as the definition says, unless memory ran out, as it may only while frames are due and
--- fewer than the limit were sent; after a refusal the session has failed
+-- the next frame was made as the definition says, unless memory ran out, as it may only while frames are due and fewer
+-- than the limit have been sent; after a refusal the session has failed
 pub record SendsNext {X Y : Type 0} (is_sending : Bool) (sent limit : ℕ) (has_failed : Type 0)
     (view : X → Y) (result : Result X GossipFault) (answer : Result Y GossipFault) : Type 0 where
   pub given : GivesUnless Memory view result answer
@@ -78,7 +78,7 @@ pub record SendsNext {X Y : Type 0} (is_sending : Bool) (sent limit : ℕ) (has_
   pub within : result ≡ Err Memory → sent < limit
   pub failed : OnErr result has_failed
 
--- when one of two streams is to blame for a fault, the counts of whose failures never fall
+-- when one of two streams is to blame for a fault; the counts of their failures never fall
 pub record Blames {R W : Type 0} (remaining : R → Option (List ℕ)) (input input_new : Counted R)
     (output output_new : Counted W) (result : Result (Unit {0}) GossipFault) : Type 0 where
   pub ended : result ≡ Err Ended → IsAtEnd (remaining (inner_of input_new))
@@ -102,7 +102,7 @@ pub record Gives {R W S : Type 0} (remaining : R → Option (List ℕ)) (content
   pub asked : StaysSource layout may_become source source_new
   pub blame : Blames remaining input input_new output output_new result
 
--- a call that pulls into the cells m, in a session of at most so many frames; `joined` says which cells a target joined
+-- a call that pulls into the cells m, in a session of at most `limit` frames; `joined` says which cells a target joined
 pub record Pulls {R W : Type 0} (remaining : R → Option (List ℕ)) (contents : W → Option (List ℕ)) (limit : ℕ)
     (s : Layout) (m : Cells) (joined : List NamedCell → Type 0) (input input_new : Counted R)
     (output output_new : Counted W) (result : Result (Unit {0}) GossipFault) : Type 0 where

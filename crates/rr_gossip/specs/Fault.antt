@@ -1,4 +1,4 @@
--- The printed names of faults, each its variant's, and the fault that one of a body is in a session.
+-- The printed names of faults, each its variant's, and the faults of a body as those of a session.
 use Rattle.std.specs.Prelude.{ℕ, List, codes, Result, Ok, Err}
 use Rattle.rr_page.specs.declared.fault.PageFault.{PageFault}
 use Rattle.rr_page.specs.declared.fault.PageFault.TheVariants as page
@@ -17,7 +17,7 @@ gossip_fault_name WriteFailed = codes "WriteFailed"
 gossip_fault_name Memory = codes "Memory"
 gossip_fault_name Failed = codes "Failed"
 
--- a page of another schema is a fault of its own, any other fault of a body is BadFrame
+-- another schema and a lack of memory are faults of their own; any other fault of a body is BadFrame
 abbrev pub body_fault : PageFault → GossipFault
 body_fault page.Short = BadFrame
 body_fault page.BadMagic = BadFrame
@@ -31,7 +31,7 @@ body_fault page.OutOfOrder = BadFrame
 body_fault page.TrailingBytes = BadFrame
 body_fault page.Memory = Memory
 
--- what is read of a body, with the faults of a session
+-- what is read from a body, with the faults of a session
 abbrev pub as_body : {A : Type 0} → Result A PageFault → Result A GossipFault
 as_body (Ok x) = Ok x
 as_body (Err fault) = Err (body_fault fault)

@@ -62,7 +62,7 @@ hello_taken s body = unless why.SchemaDiffers (not (pointwise nat_eq body (schem
 unfoldable pub summary_taken : Layout → List NamedVersion → List ℕ → Result Stage GossipFault
 summary_taken s vs body = as_body (summary_at s vs body) >>= λ names. Ok (Listing names)
 
--- their end has the difference made, of cells m against all names
+-- their end makes the difference, of the cells m against all names
 unfoldable pub end_taken : Cells → Layout → List NamedVersion → List ℕ → Result Stage GossipFault
 end_taken m s vs body = unless why.BadFrame (not (length body == 0)) (Ok (Giving (s, newer_cells vs (entries m))))
 
@@ -110,7 +110,7 @@ giver_takes m s g content = do
 
 -- ---- the next frame
 
--- the end of the pages, where there is none; and the stage after it
+-- a page, or the end of the pages if there is none; and the stage after it
 abbrev pub page_sent : CellsLeft → Option (List ℕ) → Stage × List ℕ
 page_sent left None = (Done, frame_text kind.PageEnd [])
 page_sent left (Some page) = (Giving (after_page left), frame_text kind.Page page)
@@ -125,7 +125,7 @@ stage_sends (Giving left) = some_sent (page_sent left (next_page left))
 stage_sends Done = Ok (Done, None)
 stage_sends Failed = Err why.Failed
 
--- one frame more, if one is sent
+-- one more, if a frame is sent
 abbrev pub count_with : ℕ → Option (List ℕ) → ℕ
 count_with n None = n
 count_with n (Some frame) = n + 1
@@ -137,7 +137,7 @@ giver_sends g = do
   unless why.TooManyFrames (is_some next.1 && nat_le g.limit g.sent)
       (Ok (record { stage = next.0; sent = count_with g.sent next.1; taken = g.taken; limit = g.limit }, next.1))
 
--- cells that are still to be sent are cells of its schema, ascending by their names
+-- cells that are still to be sent are those of their schema, ascending by their names
 abbrev pub AreFit : Stage → Type 0
 AreFit Opening = Unit {0}
 AreFit (Listing vs) = Unit {0}
@@ -145,7 +145,7 @@ AreFit (Giving left) = AreLeft left
 AreFit Done = Unit {0}
 AreFit Failed = Unit {0}
 
--- a session that has failed answers Failed from then on
+-- the session has failed
 abbrev pub GiverFailed : Giver → Type 0
 GiverFailed g = IsTrue (has_failed g.stage)
 

@@ -9,20 +9,20 @@ use Rattle.rr_gossip.specs.SummaryReading.{summary_at}
 use Rattle.rr_gossip.specs.declared.frame.Kind.{Kind}
 use Rattle.rr_gossip.specs.declared.frame.TheConstants.{MAX_FRAME_LEN}
 
--- the names so far are followed by others, which the bytes of a Summary frame's body are
+-- the names so far are followed by others, and the bytes are the text of these
 pub record AddsPiece (s : Layout) (bytes : List ℕ) (old new : List NamedVersion) : Type 0 where
   pub names : List NamedVersion
   pub piece : IsPiece s (last_name old) names
   pub added : new ≡ old ++ names
   pub text : bytes ≡ summary_text names
 
--- the body of a Summary frame is read exactly where it is the text of names that may come after those so far
+-- the body of a Summary frame is read exactly if it is the text of names that may come after those so far
 abbrev pub SummariesAreTheirText : Type 0
 SummariesAreTheirText =
     (s : Layout) (bytes : List ℕ) (old new : List NamedVersion) → IsLayout s → AreBytes bytes
     → (summary_at s old bytes ≡ Ok new) ↔ AddsPiece s bytes old new
 
--- a frame is read exactly where it is the text of a kind and a body, and not too long
+-- a frame is read exactly if it is the text of a kind and a body, and not too long
 abbrev pub FramesAreTheirText : Type 0
 FramesAreTheirText =
     (content : List ℕ) (kind : Kind) (body : List ℕ)

@@ -17,11 +17,11 @@ pub record AreLeft (left : CellsLeft) : Type 0 where
   pub cells : All (IsCellOf left.0) left.1
   pub names_ascend : IsTrue (is_sorted cell_name_cmp left.1)
 
--- the next page has 256 of them, or as many as there are
+-- the next page has 256 of them, or all if there are fewer
 abbrev pub next_cells : List NamedCell → List NamedCell
 next_cells es = take MAX_PAGE_CELLS es
 
--- its bytes; there is none where no cell is left
+-- its bytes; there is none if no cell is left
 abbrev pub next_page : CellsLeft → Option (List ℕ)
 next_page (s, []) = None
 next_page (s, e ∷ es) = Some (page_text latest s (next_cells (e ∷ es)))

@@ -35,12 +35,12 @@ as_name v = record { key = v.0.key; archive = v.0.archive; slot = v.0.slot; orig
 abbrev pub last_listed : List NamedVersion → Option Name
 last_listed vs = option_map as_name (last_or None vs)
 
--- the names and versions of the next 256 cells after the last name, or as many as there are
+-- the names and versions of the next cells after the last name, at most 256
 abbrev pub next_names : Cells → Option Name → List NamedVersion
 next_names m after = take MAX_ENTRIES (map named_version
     (cells_after (option_map (λ n. (owned_name n).0) after) (entries m)))
 
--- a Summary frame, or where no name is left the end; and the stage after it
+-- a Summary frame, or the end if no name is left; and the stage after it
 abbrev pub names_sent : List NamedVersion → Stage × List ℕ
 names_sent [] = (Waiting, frame_text kind.SummaryEnd [])
 names_sent (v ∷ vs) = (Listing (last_listed (v ∷ vs)), frame_text kind.Summary (summary_text (v ∷ vs)))
@@ -122,7 +122,7 @@ puller_takes s p content = do
 
 -- ---- what is joined
 
--- the first of the cells of a frame that is read, perhaps all, perhaps none
+-- the first cells of a frame that is read, perhaps all, perhaps none
 pub record ArePrefix {X : Type 0} (es : List NamedCell) (read : Result ((X × List NamedCell) × Bool) GossipFault)
     : Type 0 where
   pub found : (X × List NamedCell) × Bool
@@ -139,7 +139,7 @@ Takes joined x (Err fault) read =
     ((fault ≡ why.Memory) × (joined [] ⊎ ((es : List NamedCell) × ArePrefix es read × joined es)))
     ⊎ ((read ≡ Err fault) × joined [])
 
--- a session that has failed answers Failed from then on
+-- the session has failed
 abbrev pub PullerFailed : Puller → Type 0
 PullerFailed p = IsTrue (has_failed p.stage)
 

@@ -28,14 +28,14 @@ use Rattle.rr_gossip.specs.Puller.{ArePrefix, puller_takes}
 use Rattle.rr_gossip.specs.Stream.{IsFrame, Stops, WasRead}
 use Rattle.rr_gossip.specs.Transcript.{contents, giver_after, puller_after, reply, frames_of_names, waiting}
 
--- why not all of a side's frames were sent: the writer failed, memory ran out, or the session may not have as many
+-- why not all of a side's frames were sent: the writer failed, memory ran out, or the session may not have that many
 abbrev pub CannotSend : ℕ → List (List ℕ) → GossipFault → Type 0
 CannotSend limit frames fault = (fault ≡ WriteFailed) ⊎ (fault ≡ Memory)
     ⊎ ((fault ≡ TooManyFrames) × (limit < length frames))
 
 -- ---- the side that pulls
 
--- the frames of a target of the cells m
+-- the frames that a target with the cells m sends
 unfoldable pub sent_by : Layout → Cells → List (List ℕ)
 sent_by s m = frames_of_names s (versions_of m)
 
@@ -47,8 +47,8 @@ pub record HasPulled (s : Layout) (first : Puller) (had left : Option (List ℕ)
   pub taken : puller_after s first [] (contents frames) ≡ Ok (last, cells)
   pub done : last.stage ≡ puller.Done
 
--- it took frames, and stopped at the next; these are the cells of the pages of those, in order, and where memory ran
--- out perhaps the first cells of the next page
+-- it took frames, and stopped at the next; these are the cells of the pages among those, in order, and perhaps, if
+-- memory ran out, the first cells of the next page
 pub record HasStoppedPulling (s : Layout) (first : Puller) (had left : Option (List ℕ)) (fault : GossipFault)
     (cells : List NamedCell) : Type 0 where
   pub frames : List (List ℕ)
@@ -61,15 +61,15 @@ pub record HasStoppedPulling (s : Layout) (first : Puller) (had left : Option (L
   pub joined : (cells ≡ pages) ⊎ ((fault ≡ Memory) × IsFrame piece
       × ((es : List NamedCell) × ArePrefix es (puller_takes s last (drop 4 piece)) × (cells ≡ pages ++ es)))
 
--- not all frames of a target of the cells m were sent, and it read and joined nothing
+-- not all frames of a target with the cells m were sent, and it read and joined nothing
 pub record HasNotSent (limit : ℕ) (s : Layout) (m : Cells) (had left : Option (List ℕ)) (fault : GossipFault)
     (cells : List NamedCell) : Type 0 where
   pub why : CannotSend limit (sent_by s m) fault
   pub unread : left ≡ had
   pub none : cells ≡ []
 
--- a pull in a session of at most so many frames failed: before all was sent, or else, with all sent within that limit,
--- among the pages
+-- a pull in a session of at most this many frames failed: before all was sent, or else, with all sent within that
+-- limit, among the pages
 abbrev pub HasFailedToPull : ℕ → Layout → Cells → Option (List ℕ) → Option (List ℕ) → Option (List ℕ) → Option (List ℕ)
     → GossipFault → List NamedCell → Type 0
 HasFailedToPull limit s m had left wrote written fault cells =
@@ -79,7 +79,7 @@ HasFailedToPull limit s m had left wrote written fault cells =
 
 -- ---- the side that gives
 
--- the frames that answer some names, by a source of the cells m
+-- the frames that answer some names, from a source with the cells m
 unfoldable pub replied_by : Layout → List NamedVersion → Cells → List (List ℕ)
 replied_by s names m = reply s (newer_cells names (entries m))
 
@@ -98,8 +98,8 @@ is_giving (stage.Giving left) = true
 is_giving stage.Done = false
 is_giving stage.Failed = false
 
--- it took frames to the end of the names and nothing after them, of which some bytes may have been read before, and has
--- the difference of its source's cells m against all names to send, which are cells of the schema
+-- it took frames to the end of the names, some of whose bytes may have been read before, and nothing after them, and
+-- has the difference of its source's cells m against all names to send, all of them cells of the schema
 pub record HasHeard (s : Layout) (m : Cells) (first last : Giver) (before : List ℕ) (had left : Option (List ℕ))
     : Type 0 where
   pub frames : List (List ℕ)
@@ -119,7 +119,8 @@ pub record HasStoppedHearing (s : Layout) (m : Cells) (first : Giver) (before : 
   pub taken : giver_after m s first (contents frames) ≡ Ok last
   pub stopped : Stops (giver_takes m s last) piece fault
 
--- in a session of at most so many frames it heard all names, and wrote the answer to them, of no more frames than that
+-- in a session of at most this many frames it heard all names, and wrote the answer to them, of no more frames than
+-- that
 pub record HasGiven (limit : ℕ) (s : Layout) (m : Cells) (before : List ℕ)
     (had left wrote written : Option (List ℕ)) : Type 0 where
   pub last : Giver
@@ -144,7 +145,8 @@ HasFailedToGive limit s m before had left wrote written fault =
 
 -- ---- laws
 
--- a give that heard what a side sends for some names, and perhaps more behind it, has the answer to those names to send
+-- a give that heard what a side sends for some names, and perhaps had more after it, has the answer to those names to
+-- send, and left what came after
 abbrev pub GivesHearTheNames : Type 0
 GivesHearTheNames =
     (s : Layout) (m : Cells) (names : List NamedVersion) (limit : ℕ) (last : Giver) (more : List ℕ)
@@ -153,8 +155,7 @@ GivesHearTheNames =
     → (heard : HasHeard s m (first_giver limit) last [] (Some (concat (frames_of_names s names) ++ more)) left)
     → (newer_cells heard.names (entries m) ≡ newer_cells names (entries m)) × (left ≡ Some more)
 
--- so one that heard what a side sends for some names, and perhaps more behind it, wrote the answer to those names, of
--- cells of the schema, and left what is behind
+-- so one that heard that and gave all wrote the answer to those names, of cells of the schema, and left what came after
 abbrev pub GivesAnswer : Type 0
 GivesAnswer =
     (s : Layout) (m : Cells) (names : List NamedVersion) (limit : ℕ) (answer more : List ℕ) (left : Option (List ℕ))
@@ -162,8 +163,8 @@ GivesAnswer =
     → HasGiven limit s m [] (Some (concat (frames_of_names s names) ++ more)) left (Some []) (Some answer)
     → (answer ≡ concat (replied_by s names m)) × (left ≡ Some more) × AreLeft (s, newer_cells names (entries m))
 
--- a pull that read what a side replies of some cells, and perhaps more behind it, has exactly these cells, in order,
--- and left what is behind
+-- a pull that read a reply of some cells, and perhaps had more after it, has exactly these cells, in order, and left
+-- what came after
 abbrev pub PullsTakeTheReply : Type 0
 PullsTakeTheReply =
     (s : Layout) (es cells : List NamedCell) (n limit : ℕ) (more : List ℕ) (left : Option (List ℕ))
@@ -171,7 +172,7 @@ PullsTakeTheReply =
     → HasPulled s (waiting n 0 limit) (Some (concat (reply s es) ++ more)) left cells
     → (cells ≡ es) × (left ≡ Some more)
 
--- one that stopped, and could read a beginning of that at most, has the first of these cells, in order
+-- one that stopped, with at most a prefix of that to read, has the first of these cells, in order
 abbrev pub StoppedPullsTakeAPrefix : Type 0
 StoppedPullsTakeAPrefix =
     (s : Layout) (es cells : List NamedCell) (n limit : ℕ) (came lost more : List ℕ) (left : Option (List ℕ))
@@ -180,7 +181,7 @@ StoppedPullsTakeAPrefix =
     → HasStoppedPulling s (waiting n 0 limit) (Some came) left fault cells
     → IsPrefix cells es
 
--- where a give heard what a pull sent, and that pull read its answer, it has exactly what its side lacked, in order
+-- if a give heard what a pull sent, and that pull read its answer, the pull has exactly what its side lacked, in order
 abbrev pub PullsBringTheDifference : Type 0
 PullsBringTheDifference =
     (s : Layout) (m given : Cells) (cells : List NamedCell) (limit limit_given : ℕ) (answer more more_given : List ℕ)
@@ -190,7 +191,7 @@ PullsBringTheDifference =
     → HasPulled s (waiting (length (sent_by s m)) 0 limit) (Some (answer ++ more)) left cells
     → cells ≡ newer_cells (versions_of m) (entries given)
 
--- to join that brings the join of the cells of both sides, where equal versions of one cell mean equal contents
+-- joining that gives the join of the cells of both sides, if equal versions of one cell mean equal contents
 abbrev pub PullsBringTheJoin : Type 0
 PullsBringTheJoin =
     (s : Layout) (m given : Cells) (cells : List NamedCell) (limit limit_given : ℕ) (answer more more_given : List ℕ)
@@ -200,7 +201,7 @@ PullsBringTheJoin =
     → HasPulled s (waiting (length (sent_by s m)) 0 limit) (Some (answer ++ more)) left cells
     → join_cells s m cells ≡ join s m given
 
--- so where both sides have the cells of closed knowledges, it brings those of what either knew
+-- so if both sides have the cells of closed knowledges, it gives the cells of their union
 abbrev pub PullsUnite : Type 0
 PullsUnite =
     (s : Layout) (w : World) (k given : Knowledge) (cells : List NamedCell) (limit limit_given : ℕ)

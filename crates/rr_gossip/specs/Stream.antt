@@ -11,7 +11,7 @@ use Rattle.rr_gossip.specs.declared.frame.TheConstants.{MAX_FRAME_LEN}
 
 -- ---- the frame at the beginning
 
--- as many bytes as a length says, and those after them; or why they are not there
+-- as many bytes as a length says, or why they are not read; and the bytes after what was looked at
 abbrev pub content_from : Result (ℕ × List ℕ) PageFault → Result (List ℕ) GossipFault × List ℕ
 content_from (Err fault) = (Err Ended, [])
 content_from (Ok (len, rest)) =
@@ -20,7 +20,7 @@ content_from (Ok (len, rest)) =
     else (Ok (take len rest), drop len rest)
 
 -- what follows the length of the frame at the beginning of bytes, or why there is none; and the bytes after what was
--- looked at: the frame, or its length alone where that is too great
+-- looked at: the frame, or only its length if that is too great
 unfoldable pub frame_at : List ℕ → Result (List ℕ) GossipFault × List ℕ
 frame_at bytes = content_from (number_at w32 bytes)
 
@@ -30,7 +30,7 @@ IsFrame bytes = frame_at bytes ≡ (Ok (drop 4 bytes), [])
 
 -- ---- what was read
 
--- bytes were taken from the beginning of what a reader had, where that is known, and stand after those that were there
+-- bytes were taken from the beginning of what a reader had, if that is known, and follow those that were there
 abbrev pub Grows : Option (List ℕ) → Option (List ℕ) → List ℕ → List ℕ → Type 0
 Grows had left before bytes = (prefix : List ℕ) × (bytes ≡ before ++ prefix) × Consumes had left prefix
 
@@ -38,7 +38,7 @@ Grows had left before bytes = (prefix : List ℕ) × (bytes ≡ before ++ prefix
 abbrev pub ReadsFewer : GossipFault → ℕ → ℕ → Type 0
 ReadsFewer fault got asked = (fault ≡ Memory) ⊎ (((fault ≡ ReadFailed) ⊎ (fault ≡ Ended)) × (got < asked))
 
--- no whole frame was read, and nothing behind what was looked at: the bytes are too few for one, at the end or where
+-- no whole frame was read, and nothing after what was looked at: there are too few bytes for one, since they ended or
 -- the reader failed, or the length is too great, or memory ran out
 pub record BreaksOff (bytes : List ℕ) (fault : GossipFault) : Type 0 where
   pub nothing_behind : (frame_at bytes).1 ≡ []
@@ -51,11 +51,11 @@ pub record IsRefused {X : Type 0} (takes : List ℕ → Result X GossipFault) (b
   pub frame : IsFrame bytes
   pub why : (fault ≡ Memory) ⊎ (takes (drop 4 bytes) ≡ Err fault)
 
--- no further frame is taken, after these bytes of it
+-- no further frame is taken, once these bytes of it were read
 abbrev pub Stops : {X : Type 0} → (List ℕ → Result X GossipFault) → List ℕ → GossipFault → Type 0
 Stops takes bytes fault = BreaksOff bytes fault ⊎ IsRefused takes bytes fault
 
--- whole frames were read, and a piece of the next, of which some bytes may have been there before
+-- whole frames were read, and a piece of the next; some of the bytes may have been there before
 pub record WasRead (before : List ℕ) (had left : Option (List ℕ)) (frames : List (List ℕ)) (piece : List ℕ)
     : Type 0 where
   pub bytes : List ℕ

@@ -13,11 +13,11 @@ use Rattle.rr_gossip.specs.declared.summary.TheConstants.{MAX_ENTRIES}
 unfoldable pub entry_text : NamedVersion → List ℕ
 entry_text v = name_text v.0 ++ to_be_bytes w64 v.1
 
--- how many they are in two bytes, and their bytes
+-- how many there are in two bytes, and their bytes
 unfoldable pub summary_text : List NamedVersion → List ℕ
 summary_text vs = to_be_bytes w16 (length vs) ++ flat_map entry_text vs
 
--- whether each name is greater than the one before it, the first than this one, if there is one
+-- whether each name is greater than the one before it, and the first greater than this one, if there is one
 abbrev pub is_rising : Option CellName → List NamedVersion → Bool
 is_rising before [] = true
 is_rising before (v ∷ vs) = is_after before v.0 && is_rising (Some v.0) vs
@@ -26,7 +26,7 @@ is_rising before (v ∷ vs) = is_after before v.0 && is_rising (Some v.0) vs
 abbrev pub last_name : List NamedVersion → Option CellName
 last_name vs = last_or None (map (λ v. v.0) vs)
 
--- from 1 to 256 names of the schema that ascend, after the one before them
+-- 1 to 256 names of cells of the schema, ascending from the one before them
 pub record IsPiece (s : Layout) (before : Option CellName) (vs : List NamedVersion) : Type 0 where
   pub some : 1 ≤ length vs
   pub few : length vs ≤ MAX_ENTRIES

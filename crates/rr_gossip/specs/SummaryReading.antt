@@ -30,7 +30,7 @@ entries_at s vs (suc n) bytes = do
   entry ← entry_at s bytes
   unless OutOfOrder (not (is_after (last_name vs) entry.0.0)) (entries_at s (vs ++ entry.0 ∷ []) n entry.1)
 
--- the names so far, with those that all of the bytes are
+-- the names so far, with those that all of the bytes are read as
 unfoldable pub summary_at : Layout → List NamedVersion → List ℕ → Result (List NamedVersion) PageFault
 summary_at s vs bytes = do
   count ← number_at w16 bytes

@@ -28,7 +28,7 @@ use Rattle.rr_gossip.specs.Summary.{summary_text}
 
 -- ---- what is to be sent
 
--- a list cut into pieces of n, the last of as many as are left, up to a number of pieces
+-- a list cut into pieces of n, the last of them with what is left, in at most this many pieces
 unfoldable pub pieces : {X : Type 0} → ℕ → ℕ → List X → List (List X)
 pieces zero n xs = []
 pieces (suc most) n [] = []
@@ -51,12 +51,12 @@ reply s es = map (λ piece. frame_text kind.Page (page_text latest s piece)) (cu
 
 -- ---- what is sent
 
--- a frame, and those after it; none after the last
+-- a frame and those after it, or none if there is no frame
 abbrev pub and_frames : Option (List ℕ) → Result (List (List ℕ)) GossipFault → Result (List (List ℕ)) GossipFault
 and_frames None later = Ok []
 and_frames (Some frame) later = later >>= λ frames. Ok (frame ∷ frames)
 
--- the frames that a giver sends in a row, at most so many
+-- the frames that a giver sends in a row, at most this many
 unfoldable pub giver_frames : ℕ → Giver → Result (List (List ℕ)) GossipFault
 giver_frames zero g = Ok []
 giver_frames (suc most) g = giver_sends g >>= λ next. and_frames next.1 (giver_frames most next.0)
@@ -67,18 +67,18 @@ abbrev pub and_later : Puller → Option (List ℕ) → Result (Puller × List (
 and_later p None later = Ok (p, [])
 and_later p (Some frame) later = later >>= λ x. Ok (x.0, frame ∷ x.1)
 
--- a puller whose cells are m all the while, after the frames that it sends in a row, at most so many, and these frames
+-- a puller whose cells stay m, after the frames that it sends in a row, at most this many, and these frames
 unfoldable pub puller_frames : ℕ → Cells → Layout → Puller → Result (Puller × List (List ℕ)) GossipFault
 puller_frames zero m s p = Ok (p, [])
 puller_frames (suc most) m s p = puller_sends m s p >>= λ next. and_later next.0 next.1 (puller_frames most m s next.0)
 
--- a puller that has sent so many frames, the last among them, and taken so many
+-- a puller that has sent this many frames, including the last, and taken that many
 abbrev pub waiting : ℕ → ℕ → ℕ → Puller
 waiting sent taken limit = record { stage = puller.Waiting; sent = sent; taken = taken; limit = limit }
 
 -- ---- laws
 
--- a giver that has made a difference sends its pages and the end, if it may send as many frames
+-- a giver that has made a difference sends its pages and the end, if it may send that many frames
 abbrev pub GiversReply : Type 0
 GiversReply =
     (s : Layout) (es : List NamedCell) (before taken limit most : ℕ) → before + length (reply s es) ≤ limit
@@ -86,7 +86,7 @@ GiversReply =
     → giver_frames most (record { stage = giver.Giving (s, es); sent = before; taken = taken; limit = limit })
     ≡ Ok (reply s es)
 
--- a puller sends its schema, the names and versions of all cells, and the end, if it may send as many frames
+-- a puller sends its schema, the names and versions of all cells, and the end, if it may send that many frames
 abbrev pub PullersSend : Type 0
 PullersSend =
     (s : Layout) (m : Cells) (limit most : ℕ) → length (frames_of_names s (versions_of m)) ≤ limit
@@ -111,7 +111,7 @@ unfoldable pub puller_after : Layout → Puller → List NamedCell → List (Lis
 puller_after s p had [] = Ok (p, had)
 puller_after s p had (c ∷ cs) = puller_takes s p c >>= λ next. puller_after s next.0.0 (had ++ next.0.1) cs
 
--- a giver that takes what a puller sends then has the difference against it to send
+-- a giver that has taken what a puller sends has the difference against it to send
 abbrev pub GiversTake : Type 0
 GiversTake =
     (s : Layout) (m : Cells) (vs : List NamedVersion) (limit : ℕ) → IsLayout s → All (IsNameOf s) vs → IsSummary vs
@@ -133,8 +133,8 @@ PullersTake =
     → puller_after s (waiting sent taken limit) had (contents (reply s es))
     ≡ Ok (record { stage = puller.Done; sent = sent; taken = taken + length (reply s es); limit = limit }, had ++ es)
 
--- a whole session of at most so many frames each way: a puller of the cells m sends its frames, a giver of the cells
--- `given` takes them and replies, and the puller takes the reply, which has these cells
+-- a whole session of at most `limit` frames each way: a puller with the cells m sends its frames, a giver with the
+-- cells `given` takes them and replies, and the puller takes the reply, which has these cells
 pub record IsSession (s : Layout) (m given : Cells) (limit : ℕ) (cells : List NamedCell) : Type 0 where
   pub puller : Puller
   pub frames : List (List ℕ)
@@ -146,8 +146,8 @@ pub record IsSession (s : Layout) (m given : Cells) (limit : ℕ) (cells : List 
   pub last : Puller
   pub is_taken : puller_after s puller [] (contents pages) ≡ Ok (last, cells)
 
--- it brings what the puller lacks, in order, and so the join of both sides' cells, where equal versions of one cell
--- mean equal contents
+-- it brings what the puller lacks, in order, and so the join of both sides' cells, if equal versions of one cell mean
+-- equal contents
 abbrev pub SessionsBringTheJoin : Type 0
 SessionsBringTheJoin =
     (s : Layout) (m given : Cells) (limit : ℕ) → IsLayout s → IsTrimmed s m → All (IsCellOf s) (entries m)

@@ -10,7 +10,7 @@ pub record PaceState : Type 0 where
   pub last : Option Instant
   pub passed : ℕ
 
--- for how many intervals it is passed over after one more failure: 1, 2, 4 and so on
+-- for how many intervals it is passed over after one more failure: 1, 2, 4 and so on, up to a limit
 abbrev pub passed_next : ℕ → ℕ
 passed_next passed = if passed == 0 then 1 else min (passed * 2) MOST_PASSED
 
@@ -18,15 +18,15 @@ passed_next passed = if passed == 0 then 1 else min (passed * 2) MOST_PASSED
 abbrev pub within_64_bits : ℕ → ℕ
 within_64_bits n = min n (2 ^ 64 - 1)
 
--- whether so many seconds last as long as an interval and those that are passed over
+-- whether this many seconds are as long as an interval and those that are passed over
 abbrev pub is_past : (elapsed every passed : ℕ) → Bool
 is_past elapsed every passed = nat_le (within_64_bits (every * within_64_bits (passed + 1))) elapsed
 
--- whole seconds; none where the clock went back
+-- whole seconds; none if the clock went back
 abbrev pub seconds_between : Instant → Instant → ℕ
 seconds_between last now = (instant_nanos now - instant_nanos last) / 1_000_000_000
 
--- by the seconds of an interval, by when it was done last, and by now: due where one of them is missing
+-- whether it is due, by the seconds of an interval, when it was done last, and now: it is if one of these is missing
 abbrev pub is_due_by : Option ℕ → Option Instant → Option Instant → ℕ → Bool
 is_due_by (Some every) (Some last) (Some now) passed = is_past (seconds_between last now) every passed
 is_due_by None last now passed = true

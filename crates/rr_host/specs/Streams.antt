@@ -1,17 +1,17 @@
--- The streams of connections, as the calls show them that give and take them back.
+-- The streams of connections, as shown by the calls that give them and take them back.
 use Rattle.std.specs.Prelude.{ℕ, List, [], Option, Some}
 use Rattle.rr_io.specs.declared.counted.Counted.{Counted}
 use Rattle.rr_io.specs.Counted.{inner_of, ends_of, failures_of, reads_of}
 
--- an input: what is left to read, where that is known, how often it was read, how many of its reads told the end, and
--- how many of its calls failed
+-- an input: what is left to read, if that is known, how often it was read, how many of its reads met the end, and how
+-- many of its calls failed
 pub record Input : Type 0 where
   pub left : Option (List ℕ)
   pub reads : ℕ
   pub ends : ℕ
   pub failures : ℕ
 
--- an output: what is written, where that is known, and how many of its calls failed
+-- an output: what is written, if that is known, and how many of its calls failed
 pub record Output : Type 0 where
   pub written : Option (List ℕ)
   pub failures : ℕ

@@ -5,8 +5,8 @@ use Rattle.rr_host.specs.declared.visits.Visit.{Visit}
 use Rattle.rr_host.specs.declared.visits.Visit.TheVariants as visit
 use Rattle.rr_host.specs.Streams.{Stream, stream_of}
 
--- A call: a stream was given, or it failed, or none will come; it was told that the peer of the stream has another
--- schema; or a stream was handed back
+-- a call: it gave a stream, or failed, or no more will come; or it reported that the peer of the stream has another
+-- schema; or it handed a stream back
 pub data Call : Type 0 where
   Gave : Stream → Call
   Failed : Call
@@ -14,7 +14,7 @@ pub data Call : Type 0 where
   Differs : Call
   TookBack : Stream → Call
 
--- the call that answered so
+-- the call with this answer
 abbrev pub call_of : {R W : Type 0} → (R → Option (List ℕ)) → (W → Option (List ℕ)) → Visit R W → Call
 call_of left written (visit.Stream input output) = Gave (stream_of left written input output)
 call_of left written visit.Failed = Failed

@@ -10,11 +10,11 @@ inner_of c = c.inner
 abbrev pub reads_of : {S : Type 0} → Counted S → ℕ
 reads_of c = c.reads
 
--- how many of its reads told the end, up to the greatest number of 64 bits
+-- how many of its reads met the end, up to the greatest number of 64 bits
 abbrev pub ends_of : {S : Type 0} → Counted S → ℕ
 ends_of c = c.ends
 
--- nothing was written since it last passed on what it held back
+-- nothing was written since it was last flushed
 abbrev pub is_flushed : {S : Type 0} → Counted S → Bool
 is_flushed c = c.flushed
 
@@ -22,11 +22,11 @@ is_flushed c = c.flushed
 abbrev pub failures_of : {S : Type 0} → Counted S → ℕ
 failures_of c = c.failures
 
--- one call more: the greatest number stays
+-- one more call: the greatest number stays
 abbrev pub one_more : ℕ → ℕ
 one_more n = if n == 2 ^ 64 - 1 then n else n + 1
 
--- a read into a buffer of this length told the end: it gave no byte, though there was room
+-- a read into a buffer of this length met the end: it gave no byte, though there was room
 abbrev pub is_end_read : {E : Type 0} → Result ℕ E → ℕ → Bool
 is_end_read (Ok given) room = (given == 0) && not (room == 0)
 is_end_read (Err e) room = false

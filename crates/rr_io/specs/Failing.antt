@@ -1,4 +1,4 @@
--- A stream of which one call fails: what it shows, and what a call does to it.
+-- A stream with one call that fails: what it shows, and what a call does to it.
 use Rattle.std.specs.Prelude.{◌≡◌, ℕ, ◌-◌, ◌==◌, Bool, true, false, Result, IsErr, Option, None, Some, if◌then◌else◌}
 use Rattle.rr_io.specs.declared.failing.Failing.{Failing}
 
@@ -15,7 +15,7 @@ abbrev pub fails_next : Option ℕ → Bool
 fails_next None = false
 fails_next (Some left) = left == 0
 
--- after one call more
+-- after one more call
 abbrev pub one_call_less : Option ℕ → Option ℕ
 one_call_less None = None
 one_call_less (Some left) = if left == 0 then None else Some (left - 1)

@@ -1,23 +1,23 @@
--- What calls of a stream did, also where one failed.
+-- What calls to a stream did, even if one failed.
 use Rattle.std.specs.Prelude.{◌≡◌, ℕ, ◌<◌, ◌≤◌, List, ◌++◌, ◌+◌, length, take, Option, None, Some, IfSome, Result, Ok, Err, OnOk, OnErr, Bool, true, false, not, ◌&&◌, ◌==◌}
 use Rattle.std.specs.Io.{ReadsAtMost, WritesAtMost}
 use Rattle.std.specs.Io.KnownBytes.{Appends, Consumes, IsAtEnd, Keeps, ReadConsumes, WriteAppends}
 use Rattle.rr_io.specs.declared.counted.Counted.{Counted}
 use Rattle.rr_io.specs.Counted.{inner_of, failures_of, is_flushed, reads_of, HasRisen, HasRisenBy}
 
--- where the bytes of a writer are known, a prefix of the text was written after them, and nothing else
+-- if the bytes of a writer are known, a prefix of the text was written after them, and nothing else
 abbrev pub AppendsPrefix : Option (List ℕ) → Option (List ℕ) → List ℕ → Type 0
 AppendsPrefix old new text = (prefix : List ℕ) × (rest : List ℕ) × (text ≡ prefix ++ rest) × Appends old new prefix
 
--- where the bytes of a reader are known, some were taken from their beginning, or none
+-- if the bytes of a reader are known, some were taken from their beginning, or none
 abbrev pub ConsumesSome : Option (List ℕ) → Option (List ℕ) → Type 0
 ConsumesSome old new = (bytes : List ℕ) × Consumes old new bytes
 
--- where the bytes of a reader are known, at most so many were taken from their beginning
+-- if the bytes of a reader are known, at most this many were taken from their beginning
 abbrev pub TakesAtMost : ℕ → Option (List ℕ) → Option (List ℕ) → Type 0
 TakesAtMost n old new = (bytes : List ℕ) × (length bytes ≤ n) × Consumes old new bytes
 
--- a prefix of what a reader had, where that is known, was added after the bytes that were there
+-- a prefix of what a reader had, if that is known, was added after the bytes that were there
 abbrev pub AddsPrefix : Option (List ℕ) → List ℕ → List ℕ → Type 0
 AddsPrefix known old new = (prefix : List ℕ) × (new ≡ old ++ prefix)
     × IfSome known (λ all. (rest : List ℕ) × (all ≡ prefix ++ rest))
@@ -27,7 +27,7 @@ abbrev pub TakesMore : Option (List ℕ) → Option (List ℕ) → List ℕ → 
 TakesMore known left old new = (prefix : List ℕ) × (more : List ℕ) × (new ≡ old ++ prefix) × (0 < length more)
     × Consumes known left (prefix ++ more)
 
--- one read told the end: it gave no byte, though there was room
+-- one read met the end: it gave no byte, though there was room
 abbrev pub tells_end : {E : Type 0} → Result (Option ℕ) E → ℕ → Bool
 tells_end (Ok (Some given)) room = (given == 0) && not (room == 0)
 tells_end (Ok None) room = false
@@ -65,7 +65,7 @@ WritesPrefix contents old new text = AppendsPrefix (contents (inner_of old)) (co
 abbrev pub ReadsSome : {R : Type 0} → (R → Option (List ℕ)) → Counted R → Counted R → Type 0
 ReadsSome remaining old new = ConsumesSome (remaining (inner_of old)) (remaining (inner_of new))
 
--- at most so many bytes were
+-- at most this many bytes were
 abbrev pub ReadsUpTo : {R : Type 0} → ℕ → (R → Option (List ℕ)) → Counted R → Counted R → Type 0
 ReadsUpTo n remaining old new = TakesAtMost n (remaining (inner_of old)) (remaining (inner_of new))
 
@@ -89,7 +89,7 @@ HasReads n old new = HasRisenBy n (reads_of old) (reads_of new)
 abbrev pub HasFewReads : {R : Type 0} → ℕ → Counted R → Counted R → Type 0
 HasFewReads n old new = reads_of new ≤ reads_of old + n
 
--- ---- what a call of a stream did, and whether its failures were counted
+-- ---- what a call to a stream did, and whether its failures were counted
 
 -- no failure is forgotten, and one is counted if the call is refused
 pub record CountsFailures {S X E : Type 0} (old new : Counted S) (result : Result X E) : Type 0 where
@@ -104,7 +104,7 @@ pub record ReadsOn {R X E : Type 0} (n : ℕ) (remaining : R → Option (List �
   pub failures_never_fall : KeepsFailures old new
   pub failed : OnErr result (HasFailed old new)
 
--- the whole text was written; or a prefix of it was, and a call of the writer failed
+-- the whole text was written; or a prefix of it was, and a call to the writer failed
 pub record Writes {W E : Type 0} (contents : W → Option (List ℕ)) (old new : Counted W) (text : List ℕ)
     (result : Result (Unit {0}) E) : Type 0 where
   pub whole : OnOk result (WritesWhole contents old new text)
@@ -112,7 +112,7 @@ pub record Writes {W E : Type 0} (contents : W → Option (List ℕ)) (old new :
   pub failures_never_fall : KeepsFailures old new
   pub failed : OnErr result (HasFailed old new)
 
--- what a writer held back was passed on, or a call of it failed; nothing more was written
+-- a writer was flushed, or a call to it failed; nothing more was written
 pub record Flushes {W E : Type 0} (contents : W → Option (List ℕ)) (old new : Counted W) (result : Result (Unit {0}) E)
     : Type 0 where
   pub flushed : OnOk result (is_flushed new ≡ true)

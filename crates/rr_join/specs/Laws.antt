@@ -1,4 +1,4 @@
--- The laws of merging and joining, for keys and values that tie only where they are equal.
+-- The laws of merging and joining, for keys and values that tie only if they are equal.
 use Rattle.std.specs.Prelude.{◌≡◌, Bool, List}
 use Rattle.std.specs.declared.cmp.Ordering.{Ordering}
 use Rattle.std.specs.FinMap.{FinMap, IsAntisymmetric}
@@ -29,7 +29,7 @@ module _ {N V : Type 0} (R : N → N → Ordering) (S : V → V → Ordering) wh
   JoinIsIdempotent = (is_live : List N → N → Bool) (is_past : N → N → Bool) → IsHorizon is_live is_past
       → IsAntisymmetric R → IsAntisymmetric S → (m : FinMap R V) → joined S is_live m m ≡ trimmed is_live m
 
-  -- and what the join gives is trimmed
+  -- and the map that a join gives is trimmed
   abbrev pub JoinIsTrimmed : Type 0
   JoinIsTrimmed = (is_live : List N → N → Bool) (is_past : N → N → Bool) → IsHorizon is_live is_past → IsAntisymmetric R
       → (m n : FinMap R V) → trimmed is_live (joined S is_live m n) ≡ joined S is_live m n

@@ -5,7 +5,7 @@ use Rattle.std.specs.Ordering.{ord_max}
 use Rattle.std.specs.List.{list_all}
 use Rattle.std.specs.FinMap.{FinMap, empty, get, insert, keys, retain_keys}
 
--- the greater of two values, where there are two
+-- the greater of two values, or the only one there is
 abbrev pub greater : {V : Type 0} → (V → V → Ordering) → Option V → Option V → Option V
 greater S None b = b
 greater S (Some a) None = Some a
@@ -31,7 +31,7 @@ module _ {N V : Type 0} {R : N → N → Ordering} where
   unfoldable pub trimmed : (List N → N → Bool) → FinMap R V → FinMap R V
   trimmed is_live m = retain_keys m (is_live (keys m))
 
-  -- at each key of either map the greater of its values
+  -- the greater of the values at each key of either map
   unfoldable pub merged : (V → V → Ordering) → FinMap R V → FinMap R V → FinMap R V
   merged S m n = map_of (keys m ++ keys n) (λ q. greater S (get m q) (get n q))
 
@@ -43,7 +43,7 @@ module _ {N V : Type 0} {R : N → N → Ordering} where
 abbrev pub set_of : {N : Type 0} {R : N → N → Ordering} → List N → FinMap R (Unit {0})
 set_of {R = R} ns = map_of {R = R} ns (λ n. Some tt)
 
--- a key is live among others where none of them puts it past the horizon
+-- a key is live among others if none of them puts it past the horizon, which is an order that has nothing before itself
 pub record IsHorizon {N : Type 0} (is_live : List N → N → Bool) (is_past : N → N → Bool) : Type 0 where
   pub says : (ns : List N) (n : N) → is_live ns n ≡ list_all (λ m. not (is_past m n)) ns
   pub itself : (n : N) → is_past n n ≡ false

@@ -10,6 +10,6 @@ use Rattle.rr_join.specs.Maps.{map_of}
 unfoldable pub map_values : {N V W : Type 0} {R : N → N → Ordering} → (V → W) → FinMap R V → FinMap R W
 map_values f m = map_of (keys m) (λ name. option_map f (get m name))
 
--- the value at the key that is called by the name
+-- the value at the key with this name
 abbrev pub get_called : {N K V : Type 0} → (N → N → Ordering) → (K → N) → BTreeMap K V → N → Option V
 get_called R called m name = get_by (λ key. R name (called key)) m

@@ -12,7 +12,7 @@ use Rattle.rr_key.specs.declared.fault.KeyFault.TheVariants.{EmptyName, BadName,
 use Rattle.rr_key.specs.Name.{is_empty, is_bad}
 use Rattle.rr_key.specs.Series.{Series, key_text}
 
--- the names of a series as they are handed in: the tags in any order
+-- the names of a series as they are given: the tags in any order
 pub record Names : Type 0 where
   pub measurement : List ℕ
   pub tags : List (List ℕ × List ℕ)
@@ -30,7 +30,7 @@ names_of measurement tags field = record { measurement = measurement; tags = tag
 abbrev pub series_of : Names → Series
 series_of names = record { measurement = names.measurement; tags = from_entries names.tags; field = names.field }
 
--- whether a name of the tags passes a test
+-- whether a key or a value of the tags passes a test
 abbrev pub any_tag : (List ℕ → Bool) → List (List ℕ × List ℕ) → Bool
 any_tag test tags = list_any (λ tag. test tag.0 || test tag.1) tags
 

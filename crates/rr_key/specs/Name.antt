@@ -5,7 +5,7 @@ use Rattle.rr_key.specs.declared.class.Class.{Class}
 use Rattle.rr_text.specs.declared.bytes.TheConstants.{BACKSLASH, LINE_FEED}
 use Rattle.rr_key.specs.Class.{is_special}
 
--- a name without a byte
+-- a name without bytes
 abbrev pub is_empty : List ℕ → Bool
 is_empty name = length name == 0
 
@@ -19,7 +19,7 @@ ends_in_backslash (byte ∷ next ∷ rest) = ends_in_backslash (next ∷ rest)
 abbrev pub is_bad : List ℕ → Bool
 is_bad name = list_any (λ byte. byte == LINE_FEED) name || ends_in_backslash name
 
--- what may be a name of a key
+-- whether it may be a name of a key
 abbrev pub is_name : List ℕ → Bool
 is_name name = not (is_empty name) && not (is_bad name)
 

@@ -1,4 +1,4 @@
--- A key text from left to right.
+-- The reading of a key text, from left to right.
 use Rattle.std.specs.Prelude.{◌≡◌, ℕ, zero, suc, ◌+◌, ◌≤◌, nat_le, Bool, true, false, ◌&&◌, ◌==◌, List, [], ◌∷◌, length, take, drop, IsTrue, Option, None, Some, if◌then◌else◌}
 use Rattle.std.specs.List.{list_all}
 use Rattle.std.specs.Ordering.{is_lt}
@@ -12,7 +12,7 @@ use Rattle.rr_text.specs.Options.{◌>>=◌}
 use Rattle.rr_key.specs.Series.{is_tag, tail_text}
 use Rattle.rr_key.specs.Unit.{escape, unescape, name_len}
 
--- the written name at the beginning and the bytes after it, if it may be one of a key
+-- the written name at the beginning and the bytes after it, if it may be a name of a key
 abbrev pub name_at : Class → List ℕ → Option (List ℕ × List ℕ)
 name_at class text =
     let len = name_len class text in
@@ -45,7 +45,7 @@ pub record IsTail (before : List ℕ) (count : ℕ) (text : List ℕ) : Type 0 w
 abbrev pub IsLast : List ℕ → Type 0
 IsLast text = (field : List ℕ) × IsTrue (is_name field) × (text ≡ SPACE ∷ escape Other field)
 
--- whether what may be there passes a test
+-- whether there is something, and it passes a test
 abbrev pub is_some_and : {A : Type 0} → Option A → (A → Bool) → Bool
 is_some_and None test = false
 is_some_and (Some x) test = test x
@@ -54,7 +54,7 @@ is_some_and (Some x) test = test x
 abbrev pub is_last : List ℕ → Bool
 is_last text = is_some_and (strip SPACE text) (λ field. is_some_and (name_at Other field) (λ name. length name.1 == 0))
 
--- the last part, or one more where a comma follows
+-- the last part, or one more if a comma follows
 abbrev pub if_comma : Option (List ℕ) → Bool → (List ℕ → Bool) → Bool
 if_comma None last more = last
 if_comma (Some tag) last more = more tag

@@ -35,7 +35,7 @@ key_text series = escape Measurement series.measurement ++ tail_text (entries se
 abbrev pub is_tag : List ℕ × List ℕ → Bool
 is_tag tag = is_name tag.0 && is_name tag.1
 
--- a series that has a key: of names, with few tags and a short text
+-- a series that has a key: its parts are names, its tags not too many, and its text not too long
 pub record IsSeries (series : Series) : Type 0 where
   pub measurement : IsTrue (is_name series.measurement)
   pub tags : IsTrue (list_all is_tag (entries series.tags))

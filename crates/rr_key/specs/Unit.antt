@@ -1,5 +1,5 @@
 -- Names as they are written. A unit is a backslash and the special byte after it, which stands for that byte, or one
--- byte that is not special, which stands for itself: a backslash too, where no special byte follows.
+-- byte that is not special, which stands for itself: also a backslash, if no special byte follows.
 use Rattle.std.specs.Prelude.{ℕ, ◌+◌, ◌&&◌, ◌==◌, List, [], ◌∷◌, if◌then◌else◌}
 use Rattle.rr_key.specs.declared.class.Class.{Class}
 use Rattle.rr_text.specs.declared.bytes.TheConstants.{BACKSLASH}

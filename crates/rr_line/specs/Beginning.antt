@@ -15,14 +15,14 @@ use Rattle.rr_line.specs.Part.{content}
 use Rattle.rr_line.specs.Tag.{has_key}
 use Rattle.rr_line.specs.Value.{IsValue}
 
--- line = key "=" value rest, but for what the grammar drops at its ends, and it says something
+-- line = key "=" value rest, except for what the grammar drops at its ends, and it says something
 pub record HasFirst (line key : List ℕ) (value : ℤ) (rest : List ℕ) : Type 0 where
   pub value_text : List ℕ
   pub present : is_nothing (content line) ≡ false
   pub whole : content line ≡ key ++ EQUALS ∷ value_text
   pub is_value : IsValue value_text value rest
 
--- where a key text is a text, a space and a name, these are the prefix and the field
+-- if a key text is a text, a space and a name, these are the prefix and the field
 abbrev pub IsCut : List ℕ → List ℕ → List ℕ → Type 0
 IsCut key prefix field =
     (text name : List ℕ) → key ≡ text ++ SPACE ∷ escape Other name → (prefix ≡ text) × (field ≡ escape Other name)

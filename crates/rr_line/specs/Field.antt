@@ -32,7 +32,7 @@ LeadTo before text (field ∷ fields) rest =
     (next : List ℕ) × IsField text field (COMMA ∷ next) × MayComeAfter before field
     × LeadTo (before ++ field ∷ []) next fields rest
 
--- text = { field "," } field rest, and the rest begins with no comma
+-- text = { field "," } field rest, and the rest doesn't begin with a comma
 pub record AreFields (text : List ℕ) (fields : List Field) (rest : List ℕ) : Type 0 where
   pub prefix : List Field
   pub last : Field

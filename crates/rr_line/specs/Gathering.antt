@@ -1,4 +1,4 @@
--- What is gathered of a line before repeated keys are looked for, once for all of them: in a list that has a repeated
+-- What is gathered from a line before repeated keys are looked for, once for all of them: in a list with a repeated
 -- key, that is the first fault.
 use Rattle.std.specs.Prelude.{ℕ, zero, suc, Bool, true, ◌&&◌, List, [], ◌∷◌, ◌++◌, Result, Ok, Err}
 use Rattle.std.specs.Map.{keys_of}
@@ -27,11 +27,11 @@ rise (name ∷ names) = is_below name names && rise names
 abbrev pub repeats_key : {V : Type 0} → List (List ℕ × V) → Bool
 repeats_key entries = has_repeat (keys_of entries)
 
--- what is gathered, and what follows it or why nothing is
+-- what is gathered, and what follows it, or why no more is
 abbrev pub Gathered : Type 0 → Type 0
 Gathered A = List A × Result (List ℕ) LineFault
 
--- one part more, unless it is refused
+-- one more part, unless it is refused
 abbrev pub gather : {A : Type 0} → List A → Result (A × List ℕ) LineFault → (A → List ℕ → Gathered A) → Gathered A
 gather before (Ok (part, rest)) more = more part rest
 gather before (Err fault) more = (before, Err fault)

@@ -53,7 +53,7 @@ pub record IsPointOf (precision : Precision) (line : List ℕ) (p : PointView) :
 abbrev pub IsNothing : List ℕ → Type 0
 IsNothing line = is_nothing (content line) ≡ true
 
--- why a text is refused: good parts are followed by one that is not
+-- why a text is refused: good parts are followed by one that isn't good
 pub data TextFault (precision : Precision) (text : List ℕ) (fault : LineFault) : Type 0 where
   no_measurement : is_nothing text ≡ false → HasNoName Measurement text → fault ≡ NoMeasurement
       → TextFault precision text fault

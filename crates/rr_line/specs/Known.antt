@@ -10,7 +10,7 @@ use Rattle.rr_line.specs.Reading.{reading}
 abbrev pub Sample : Type 0
 Sample = List ℕ × ℤ
 
--- the samples of a point: one of each field
+-- the samples of a point: one for each field
 abbrev pub samples_of : PointView → List Sample
 samples_of p = map (λ field. (key_text p field.0, field.1)) p.fields
 

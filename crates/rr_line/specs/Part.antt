@@ -39,11 +39,11 @@ pub record IsName (class : Class) (text name rest : List ℕ) : Type 0 where
   pub ended : MayFollow class bytes rest
   pub whole : text ≡ name ++ rest
 
--- no name is at the beginning: the text is empty, or begins with a special byte
+-- there is no name at the beginning: the text is empty, or begins with a special byte
 abbrev pub HasNoName : Class → List ℕ → Type 0
 HasNoName class text = Ends (is_special class) text
 
--- a number of bytes at the beginning of a text, as a definition has it
+-- a number of bytes at the beginning of a text, as the definition says
 pub record IsPrefixLen (len : ℕ) (text : List ℕ) (result : ℕ) : Type 0 where
   pub value : result ≡ len
   pub within : result ≤ length text

@@ -8,7 +8,7 @@ use Rattle.rr_key.specs.Reading.{rises}
 abbrev pub has_backslash : List ℕ → Bool
 has_backslash text = list_any (λ byte. byte == BACKSLASH) text
 
--- no name has a backslash, and the keys of the tags rise
+-- the text has no backslash, and the keys of the tags rise
 pub record IsPlain (text : List ℕ) (tags : List (List ℕ × List ℕ)) : Type 0 where
   pub unescaped : has_backslash text ≡ false
   pub rising : rises [] tags ≡ true

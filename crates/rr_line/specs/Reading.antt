@@ -1,4 +1,4 @@
--- The reading, as a function of the bytes of a line: part by part, up to the first fault.
+-- The reading of a line, as a function of its bytes: part by part, up to the first fault.
 use Rattle.std.specs.Prelude.{ℕ, zero, suc, ◌+◌, nat_lt, ℤ, ◌||◌, not, ◌==◌, List, [], ◌∷◌, ◌++◌, length, take, drop, Option, None, Some, Result, Ok, Err, ok_or, if◌then◌else◌}
 use Rattle.std.specs.List.{list_any}
 use Rattle.rr_text.specs.Bytes.{strip, begins}
@@ -36,7 +36,7 @@ tag_at text = do
   value ← name_at Other MissingTagValue value_text
   unless MissingTagValue (begins EQUALS value.1) (Ok ((key.0, value.0), value.1))
 
--- what follows a comma, or the last part where there is none
+-- what follows a comma, or the last part if there is none
 abbrev pub after_comma : {A : Type 0} → Option (List ℕ) → A → (List ℕ → A) → A
 after_comma None last more = last
 after_comma (Some text) last more = more text
@@ -99,8 +99,8 @@ ending_at precision text =
     if length text == 0 then Ok None
     else (word_time precision (take (word_len text) text) (drop (word_len text) text) >>= λ time. Ok (Some time))
 
--- the fields and the time after this many bytes, unless a key text, which is that long, a space and the field's key, is
--- too long
+-- the fields and the time after this many bytes, unless a key text is too long: it has these bytes, a space and the
+-- field's key
 unfoldable pub body_at : Precision → ℕ → List ℕ → Result (List Field × Option ℤ) LineFault
 body_at precision prefix gap = do
   fields_text ← fields_text_of gap
@@ -109,7 +109,7 @@ body_at precision prefix gap = do
   unless KeyTooLong (list_any (λ field. nat_lt MAX_KEY_TEXT (prefix + 1 + length field.0)) fields.0)
       (Ok (fields.0, time))
 
--- a point, unless a key of it is too long
+-- a point, unless one of its keys is too long
 abbrev pub unless_long : PointView → Result PointView LineFault
 unless_long p = unless KeyTooLong (has_long_key p) (Ok p)
 

@@ -13,14 +13,14 @@ use Rattle.rr_line.specs.Part.{IsName, HasNoName}
 abbrev pub Tag : Type 0
 Tag = List ℕ × List ℕ
 
--- text = key "=" value rest, and the rest begins with no "="
+-- text = key "=" value rest, and the rest doesn't begin with "="
 pub record IsTag (text : List ℕ) (tag : Tag) (rest : List ℕ) : Type 0 where
   pub value_text : List ℕ
   pub key : IsName Other text tag.0 (EQUALS ∷ value_text)
   pub value : IsName Other value_text tag.1 rest
   pub ended : begins EQUALS rest ≡ false
 
--- whether a key is among those of entries; a key is written in one way
+-- whether a key is among those of entries; each key is written in only one way
 abbrev pub has_key : {V : Type 0} → List (List ℕ × V) → List ℕ → Bool
 has_key entries key = is_among key (keys_of entries)
 
@@ -36,7 +36,7 @@ AreTags before text (tag ∷ tags) rest =
     (tag_text next : List ℕ) × (text ≡ COMMA ∷ tag_text) × IsTag tag_text tag next × MayComeAfter before tag
     × AreTags (before ++ tag ∷ []) next tags rest
 
--- a key is at the beginning, and no value follows it
+-- there is a key at the beginning, and no value follows it
 pub data HasNoTagValue (text : List ℕ) : Type 0 where
   without_equals : (key rest : List ℕ) → IsName Other text key rest → begins EQUALS rest ≡ false → HasNoTagValue text
   without_name : (key value_text : List ℕ) → IsName Other text key (EQUALS ∷ value_text) → HasNoName Other value_text

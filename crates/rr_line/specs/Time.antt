@@ -31,7 +31,7 @@ time_of precision text =
 abbrev pub ends_word : ℕ → Bool
 ends_word byte = byte == SPACE
 
--- how many bytes precede the first space, or how many there are
+-- how many bytes precede the first space, or how many there are if there is none
 abbrev pub word_len : List ℕ → ℕ
 word_len text = position_or_len ends_word text
 

@@ -25,7 +25,7 @@ is_one_of words text = list_any (λ word. pointwise nat_eq text word) words
 abbrev pub is_boolean : List ℕ → Bool
 is_boolean text = is_one_of trues text || is_one_of falses text
 
--- what holds of a text that is there
+-- whether there is a text, and this holds of it
 abbrev pub has : (List ℕ → Bool) → Option (List ℕ) → Bool
 has test None = false
 has test (Some text) = test text
@@ -38,7 +38,7 @@ is_integer text = has (λ digits. is_digits (unsigned digits)) (before_last INTE
 abbrev pub is_unsigned : List ℕ → Bool
 is_unsigned text = has is_digits (before_last UNSIGNED_MARK text)
 
--- a text without the point that it may have
+-- a text without its point, if it has one
 abbrev pub without_point : List ℕ → Option (List ℕ × List ℕ) → List ℕ
 without_point text None = text
 without_point text (Some (whole, part)) = whole ++ part
@@ -47,7 +47,7 @@ without_point text (Some (whole, part)) = whole ++ part
 abbrev pub is_mantissa : List ℕ → Bool
 is_mantissa text = is_digits (without_point text (cut_at POINT text))
 
--- a text without the sign that it may have
+-- a text without its sign, if it has one
 abbrev pub without_sign : List ℕ → List ℕ
 without_sign [] = []
 without_sign (byte ∷ text) = if byte == PLUS || byte == MINUS then text else byte ∷ text
@@ -57,7 +57,7 @@ abbrev pub is_exponent : List ℕ → Bool
 is_exponent [] = true
 is_exponent (mark ∷ text) = is_digits (without_sign text)
 
--- how many bytes precede the first "e" or "E", or how many there are
+-- how many bytes precede the first "e" or "E", or how many there are if there is none
 abbrev pub mantissa_len : List ℕ → ℕ
 mantissa_len text = position_or_len (is_byte2 EXPONENT_MARK GREAT_EXPONENT_MARK) text
 
@@ -84,7 +84,7 @@ value_of text =
 abbrev pub ends_value : ℕ → Bool
 ends_value byte = is_byte2 COMMA SPACE byte
 
--- how many bytes precede the first comma or space, or how many there are
+-- how many bytes precede the first comma or space, or how many there are if there is none
 abbrev pub value_len : List ℕ → ℕ
 value_len text = position_or_len ends_value text
 
@@ -109,7 +109,7 @@ is_text text = has (λ rest. value_len rest == 0) (after_quote (drop 1 text))
 abbrev pub quoted_fault : List ℕ → LineFault
 quoted_fault text = if is_text text then TextField else BadField
 
--- nothing follows a value, or a comma or a space
+-- a value is followed by nothing, or by a comma or a space
 abbrev pub EndsValue : List ℕ → Type 0
 EndsValue rest = Ends ends_value rest
 

@@ -1,4 +1,4 @@
--- The bytes of a cell: each number big-endian, and of two's complement where it has a sign.
+-- The bytes of a cell: each number big-endian, in two's complement if it is signed.
 use Rattle.std.specs.Prelude.{ℕ, ℤ, List, [], ◌∷◌, ◌++◌, length}
 use Rattle.std.specs.Int.{Width, w16, w64, w128, cast_unsigned, to_be_bytes}
 use Rattle.rr_contrib.specs.declared.contribution.Contribution.{Contribution}
@@ -7,7 +7,7 @@ use Rattle.rr_cells.specs.CellBounds.{NamedCell}
 use Rattle.rr_page.specs.declared.version.Version.{Version}
 use Rattle.rr_page.specs.Version.{mask_width}
 
--- a number with a sign
+-- a signed number
 abbrev pub signed_bytes : Width → ℤ → List ℕ
 signed_bytes w z = to_be_bytes w (cast_unsigned w z)
 

@@ -14,29 +14,28 @@ use Rattle.rr_page.specs.Version.{HasMasksFor}
 abbrev pub AreBytes : List ℕ → Type 0
 AreBytes bytes = All (λ b. b < 2 ^ 8) bytes
 
--- a cell is read exactly where the bytes begin with the text of a cell of the schema, and what follows it
--- is left
+-- a cell is read exactly if the bytes begin with its text and it is one of the schema, and what follows it is left
 abbrev pub CellsAreTheirText : Type 0
 CellsAreTheirText =
     (v : Version) (s : Layout) (bytes : List ℕ) (e : NamedCell) (rest : List ℕ) → IsLayout s → HasMasksFor v s
     → AreBytes bytes
     → (cell_at v s bytes ≡ Ok (e, rest)) ↔ (IsCellOf s e × (bytes ≡ cell_text v e ++ rest))
 
--- a page is read exactly where the bytes are the text of a page of the schema
+-- a page is read exactly if the bytes are the text of a page of the schema
 abbrev pub PagesAreTheirText : Type 0
 PagesAreTheirText =
     (s : Layout) (bytes : List ℕ) (es : List NamedCell) → IsLayout s → AreBytes bytes
     → (page_at s bytes ≡ Ok es) ↔ (IsPage s es × IsPageText s es bytes)
 
--- no page begins another: where the text of a page, and bytes after it, are the text of a page and bytes
--- after it, the versions, the schemas, the cells and the bytes after them are the same
+-- no page begins another: if the text of a page and bytes after it are the text of a page and bytes after it, the
+-- versions, the schemas, the cells and the bytes after them are the same
 abbrev pub NoPageBeginsAnother : Type 0
 NoPageBeginsAnother =
     (v w : Version) (s t : Layout) (es fs : List NamedCell) (x y : List ℕ) → IsLayout s → IsLayout t
     → HasMasksFor v s → HasMasksFor w t → IsPage s es → IsPage t fs → page_text v s es ++ x ≡ page_text w t fs ++ y
     → (v ≡ w) × (s ≡ t) × (es ≡ fs) × (x ≡ y)
 
--- the bytes of a page without some at the end are Short
+-- the bytes of a page with some missing at the end are Short
 abbrev pub PagePrefixesAreShort : Type 0
 PagePrefixesAreShort =
     (v : Version) (s : Layout) (es : List NamedCell) (prefix rest : List ℕ) → IsLayout s → HasMasksFor v s → IsPage s es

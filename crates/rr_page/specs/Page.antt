@@ -26,7 +26,7 @@ magic = codes "RRPG"
 unfoldable pub head_text : Version → Layout → ℕ → List ℕ
 head_text v s count = magic ++ (version_byte v ∷ (schema_bytes s ++ to_be_bytes w16 count))
 
--- after them the cells
+-- and after them the cells
 unfoldable pub page_text : Version → Layout → List NamedCell → List ℕ
 page_text v s es = head_text v s (length es) ++ flat_map (cell_text v) es
 

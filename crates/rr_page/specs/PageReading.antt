@@ -39,7 +39,7 @@ schema_at s bytes = do
   field ← prefix_at (length (schema_bytes s)) version.1
   Ok ((version.0, field.0), field.1)
 
--- whether these bytes are those of a schema for which the version has masks
+-- whether these bytes are those of a schema that the version has masks for
 abbrev pub is_schema : Version → Layout → List ℕ → Bool
 is_schema v s field = has_masks_for v s && pointwise nat_eq field (schema_bytes s)
 
@@ -52,7 +52,7 @@ head_at s bytes = do
 
 -- ---- the cells
 
--- whether a cell may follow the one of a name, or be the first
+-- whether a name comes after the one before it, if there is one
 abbrev pub is_after : Option CellName → CellName → Bool
 is_after None n = true
 is_after (Some before) n = is_lt (cell_name_cmp before n)
@@ -77,7 +77,7 @@ prefix_page_at s bytes = do
   head ← head_at s bytes
   cells_at head.0.0 s None head.0.1 head.1
 
--- the cells of the page that all of the bytes are
+-- the cells of all of the bytes, read as a page
 unfoldable pub page_at : Layout → List ℕ → Result (List NamedCell) PageFault
 page_at s bytes = do
   page ← prefix_page_at s bytes

@@ -21,11 +21,11 @@ prefix_at len bytes = unless Short (nat_lt (length bytes) len) (Ok (take len byt
 abbrev pub number_at : Width → List ℕ → Result (ℕ × List ℕ) PageFault
 number_at w bytes = prefix_at (byte_len w) bytes >>= λ field. Ok (from_be_bytes w field.0, field.1)
 
--- a number with a sign, and what follows it
+-- a signed number of a width, and what follows it
 abbrev pub signed_at : Width → List ℕ → Result (ℤ × List ℕ) PageFault
 signed_at w bytes = prefix_at (byte_len w) bytes >>= λ field. Ok (cast_signed w (from_be_bytes w field.0), field.1)
 
--- a length and a key text of it, and what follows
+-- a key text after its length, and what follows it
 unfoldable pub key_at : List ℕ → Result (List ℕ × List ℕ) PageFault
 key_at bytes = do
   len ← number_at w16 bytes

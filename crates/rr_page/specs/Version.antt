@@ -7,7 +7,7 @@ use Rattle.rr_schema.specs.Schema.{Layout}
 use Rattle.rr_page.specs.declared.version.Version.{Version}
 use Rattle.rr_page.specs.declared.version.Version.TheVariants.{One, Two}
 
--- the byte that a page has for it
+-- the byte for a version
 abbrev pub version_byte : Version → ℕ
 version_byte One = 1
 version_byte Two = 2

@@ -35,7 +35,7 @@ has_long_key p = list_any (λ field. nat_lt MAX_KEY_TEXT (length (key_text p fie
 abbrev pub HasKeys : PointView → Type 0
 HasKeys p = AllByRecursion (λ field. making_fault (names_of p field.0) ≡ None) p.fields
 
--- a point that can be written: its fields are few, and each has a key
+-- a point that can be written: its fields are not too many, and each has a key
 pub record IsWritable (p : PointView) : Type 0 where
   pub keyed : HasKeys p
   pub few : length p.fields ≤ MAX_FIELDS

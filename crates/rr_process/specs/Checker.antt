@@ -1,4 +1,4 @@
--- How far the lines of a stream are reported.
+-- How far the lines of a stream have been reported.
 use Rattle.std.specs.Prelude.{◌≡◌, ℕ, ◌+◌, ◌^◌, ◌<◌, ◌≤◌, ℤ, true, false, List, [], ◌++◌, length, count_by, Option, Result, IfOk, OnOk}
 use Rattle.std.specs.Io.KnownBytes.{Appends}
 use Rattle.rr_io.specs.declared.counted.Counted.{Counted}
@@ -14,7 +14,7 @@ use Rattle.rr_process.specs.declared.fault.ToolFault.{ToolFault}
 use Rattle.rr_process.specs.Report.{is_refused, refused_count, report_from, report_of}
 use Rattle.rr_process.specs.Streams.{WritesOut}
 
--- of the bytes that were pushed, this text reports what was handed out, and it is counted
+-- this text reports what was handed out of the bytes that were pushed, and that is counted
 pub record HasReported (c : Checker) (pushed text : List ℕ) : Type 0 where
   pub handed : List Item
   pub fed : IsFed pushed handed c.feed
@@ -22,7 +22,7 @@ pub record HasReported (c : Checker) (pushed text : List ℕ) : Type 0 where
   pub lines : c.lines ≡ length handed
   pub refused : c.refused ≡ count_by (is_refused c.precision) handed
 
--- no line came yet; lines are read by this precision, and a line without a time is of this one
+-- no line has come yet; lines are read with this precision, and a line without a time has this one
 pub record IsNew (unit : Precision) (time : ℤ) (c : Checker) : Type 0 where
   pub feed : c.feed ≡ empty_feed
   pub pieces : c.pieces ≡ 0
@@ -68,7 +68,7 @@ pub record WritesItems {W X : Type 0} (contents : W → Option (List ℕ)) (old 
       → AppendsPrefix start (contents (inner_of output_new)) (report_of old.precision old.now (pushed ++ more))
   pub writes : WritesOut output output_new result
 
--- the report of all that was pushed was written whole and passed on, and the refused lines are counted; or a prefix of
+-- the report of all that was pushed was written whole and flushed, and the refused lines are counted; or a prefix of
 -- the report was written, and the result says why no more was
 pub record WritesReport {W : Type 0} (contents : W → Option (List ℕ)) (old : Checker) (output output_new : Counted W)
     (result : Result ℕ ToolFault) : Type 0 where

@@ -9,7 +9,7 @@ use Rattle.rr_process.specs.Report.{refused_count, report_of}
 use Rattle.rr_words.specs.Words.{Asked, sim, check_lines, serve, node, journal}
 
 -- a script prints what the sample model prints for it, and lines print their report; a node prints nothing, and what is
--- printed of a directory isn't of the input
+-- printed of a directory doesn't come from the input
 abbrev pub printed_for : Asked → List ℕ → List ℕ
 printed_for (sim file) input = output_of sample_model input
 printed_for (check_lines precision now) input = report_of precision now input

@@ -17,7 +17,7 @@ use Rattle.rr_text.specs.Refusal.{refusal_text}
 abbrev pub sample_text : List ℕ → ℤ → ℤ → List ℕ
 sample_text key value time = record_text (key ∷ signed_decimal value ∷ signed_decimal time ∷ [])
 
--- a record for each field of a point; a point without a time is of the time `now`
+-- a record for each field of a point; a point without a time has the time `now`
 abbrev pub point_text : ℤ → PointView → List ℕ
 point_text now p =
     flat_map (λ field. sample_text (key_text p field.0) field.1 (unwrap_or p.time now)) p.fields

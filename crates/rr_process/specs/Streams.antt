@@ -34,7 +34,7 @@ pub record Prints {R W X : Type 0} (remaining : R → Option (List ℕ)) (conten
   pub read : ReadsWithin reads input input_new result
   pub write_failed : result ≡ Err WriteFailed → HasFailed output output_new
 
--- the report of the lines that an input still had was printed and passed on, and the refused lines are counted
+-- the report of the lines that an input still had was printed and flushed, and the refused lines are counted
 pub record ReportsLines {R W : Type 0} (remaining : R → Option (List ℕ)) (contents : W → Option (List ℕ)) (reads : ℕ)
     (precision : Precision) (now : ℤ) (input input_new : Counted R) (output output_new : Counted W)
     (result : Result ℕ ToolFault) : Type 0 where
@@ -43,7 +43,7 @@ pub record ReportsLines {R W : Type 0} (remaining : R → Option (List ℕ)) (co
       (λ bytes. refused ≡ refused_count precision bytes))
   pub flushed : OnOk result (is_flushed output_new ≡ true)
 
--- the whole text was written and passed on; or a prefix of it was written, and a write failed
+-- the whole text was written and flushed; or a prefix of it was written, and a write failed
 pub record WritesText {W X : Type 0} (contents : W → Option (List ℕ)) (output output_new : Counted W) (text : List ℕ)
     (result : Result X ToolFault) : Type 0 where
   pub whole : OnOk result (WritesWhole contents output output_new text)

@@ -1,4 +1,4 @@
--- The archives of one key, each seen as a map by a function, and what a sample makes of each.
+-- The archives of one key, each seen as a map by a function, and how operations change them.
 use Rattle.std.specs.Prelude.{◌≡◌, ◌≢◌, ℕ, ℤ, ◌≤◌, Bool, IsTrue, List, map, length, Some, slice_get, FitsSigned, Result, IsOk, OnErr, OnOk}
 use Rattle.std.specs.declared.alloc.AllocError.{AllocError}
 use Rattle.std.specs.FinMap.{get}
@@ -32,14 +32,14 @@ IsOpOf s (Put x) = FitsSigned w64 x.time × (1 ≤ x.number) × (x.number ≤ MA
 IsOpOf s (Join c) = IsCellOf s (owned_cell c)
 
 module _ {X : Type 0} where
-  -- both lists have an archive with this number, and the two are so related
+  -- each two archives with the same number in both lists are related so
   abbrev pub EachPair : (ℕ → X → X → Type 0) → List X → List X → Type 0
   EachPair R old new = (i : ℕ) (a b : X) → slice_get old i ≡ Some a → slice_get new i ≡ Some b → R i a b
 
   abbrev pub Each : (ℕ → X → Type 0) → List X → Type 0
   Each P archives = (i : ℕ) (a : X) → slice_get archives i ≡ Some a → P i a
 
-  -- each archive keeps the rows that the layout says
+  -- each archive keeps as many rows as the layout says
   abbrev pub AreSized : (X → ℕ) → Layout → List X → Type 0
   AreSized limit s archives = map limit archives ≡ map (λ a. a.rows) s.archives
 
@@ -48,11 +48,11 @@ module _ {X : Type 0} where
     pub layout : IsLayout s
     pub sized : AreSized limit s archives
 
-  -- a sample of this number can be added to the cell where it falls
+  -- in each archive, the sample can be added to the cell that it falls in, if there is one
   abbrev pub CanTake : (X → ArchiveCells) → Layout → UnkeyedSample → List X → Type 0
   CanTake cells s x archives = Each (λ i a. IfSome (get (cells a) (cell_slot_for s x i)) (CanAdd x.number)) archives
 
-  -- each archive from the one with a number on has room for a sample of a time and an origin
+  -- each archive, from the one with this number on, has room for a sample of this time and origin
   abbrev pub AreReadyFrom : ℕ → (X → CellSlot → Bool) → Layout → ℤ → ℕ → List X → Type 0
   AreReadyFrom first is_ready s time origin archives =
       Each (λ i a. first ≤ i → IsTrue (is_ready a (cell_slot (slot_of s i time) origin))) archives
@@ -93,7 +93,7 @@ module _ {X : Type 0} where
     pub of_schema : AreOf limit s archives
     pub op_of : IsOpOf s op
 
-  -- the cell was joined into its archive, or memory ran out and it was not; where there was room, it doesn't run out
+  -- the cell was joined into its archive, or memory ran out and it wasn't; if there was room, memory doesn't run out
   pub record TakeCell (cells : X → ArchiveCells) (limit : X → ℕ) (is_ready : X → CellSlot → Bool) (s : Layout)
       (c : Cell) (old new : List X) (result : Result (Unit {0}) AllocError) : Type 0 where
     pub joined : OnOk result (HaveJoined cells limit c old new)
@@ -108,7 +108,7 @@ module _ {X : Type 0} where
     pub of_schema : AreOf limit s new
     pub room : OnOk result (HaveRoomFor is_ready s op new)
 
-  -- each took a sample, or memory ran out and none did; where there was room for it, memory doesn't run out
+  -- each took a sample, or memory ran out and none did; if there was room for it, memory doesn't run out
   pub record TakeSample (cells : X → ArchiveCells) (limit : X → ℕ) (is_ready : X → CellSlot → Bool) (s : Layout)
       (x : UnkeyedSample) (old new : List X) (result : Result (Unit {0}) AllocError) : Type 0 where
     pub put : OnOk result (HavePut cells s x old new)

@@ -1,4 +1,4 @@
--- What a replica keeps to.
+-- What holds of a replica, by what it has in memory.
 use Rattle.std.specs.Prelude.{◌≡◌, ℕ, ◌+◌, Bool, List, map, Option, Some, Result, IsOk, OnErr, OnOk}
 use Rattle.std.specs.declared.alloc.AllocError.{AllocError}
 use Rattle.std.specs.Global.{Vec}
@@ -45,7 +45,7 @@ module _ {X : Type 0} where
   abbrev pub seen_archive : (X → ArchiveCells) → (X → ℕ) → X → ArchiveCells × ℕ
   seen_archive cells limit a = (cells a, limit a)
 
-  -- this of each archive of a key, if it has any
+  -- and so of each archive of a key, if it has any
   abbrev pub seen_at : (X → ArchiveCells) → (X → ℕ) → List (List ℕ × Vec X) → List ℕ → Option (List (ArchiveCells × ℕ))
   seen_at cells limit entries key = option_map (λ (v : Vec X). map (seen_archive cells limit) v.items)
       (archives_of entries key)
@@ -59,12 +59,13 @@ module _ {X : Type 0} where
   HasRoom is_ready s op entries = (archives : Vec X) × (archives_of entries (op_key op) ≡ Some archives)
       × HaveRoomFor is_ready s op archives.items
 
-  -- each key has an archive for each of the schema's, of its rows
+  -- each key has the archives of the schema, with as many rows
   abbrev pub AreAllSized : (X → ℕ) → Layout → List (List ℕ × Vec X) → Type 0
   AreAllSized limit schema entries = (key : List ℕ) (archives : Vec X) → archives_of entries key ≡ Some archives
       → AreSized limit schema archives.items
 
-  -- what a replica keeps to, by what it has in memory: its cells, and an archive of the schema's rows for each
+  -- what a replica has in memory: cells that make a sound state, the archives of the schema for each key, and strictly
+  -- ascending keys
   pub record IsReplicaInMemory (cells : X → ArchiveCells) (limit : X → ℕ) (schema : Layout) (origin next : ℕ)
       (entries : List (List ℕ × Vec X)) : Type 0 where
     pub holds : IsReplicaState (replica_state_in cells schema origin next entries)
@@ -77,7 +78,7 @@ module _ {X : Type 0} where
     pub op_of : IsOpOf schema op
     pub sized : AreAllSized limit schema entries
 
-  -- a cell was joined, or memory ran out and it was not; where there was room, it doesn't run out
+  -- a cell was joined, or memory ran out and it wasn't; if there was room, memory doesn't run out
   pub record JoinsCell (cells : X → ArchiveCells) (limit : X → ℕ) (is_ready : X → CellSlot → Bool) (schema : Layout)
       (c : Cell) (old new : List (List ℕ × Vec X)) (result : Result (Unit {0}) AllocError) : Type 0 where
     pub joined : OnOk result (cells_of (held_series cells new)
@@ -93,7 +94,8 @@ module _ {X : Type 0} where
     pub sized : AreAllSized limit schema new
     pub room : OnOk result (HasRoom is_ready schema op new)
 
-  -- a sample without its key was put as a sample of a key, or memory ran out and it was not; where there was room, it doesn't run out
+  -- a sample without its key was put as a sample of a key, or memory ran out and it wasn't; if there was room, memory
+  -- doesn't run out
   pub record PutsUnkeyed (cells : X → ArchiveCells) (limit : X → ℕ) (is_ready : X → CellSlot → Bool) (schema : Layout)
       (key : List ℕ) (x : UnkeyedSample) (old new : List (List ℕ × Vec X)) (result : Result (Unit {0}) AllocError)
       : Type 0 where

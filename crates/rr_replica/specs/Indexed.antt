@@ -12,7 +12,7 @@ abbrev pub index_of : List (List ℕ × ℕ) → List ℕ → Option ℕ
 index_of indices key = lookup (is_at (bytes_cmp key)) indices
 
 module _ {X : Type 0} where
-  -- before other entries one of this key, if it has archives
+  -- other entries, with one of this key before them if it has archives
   abbrev pub with_entry : List ℕ → Option (Vec X) → List (List ℕ × Vec X) → List (List ℕ × Vec X)
   with_entry key None entries = entries
   with_entry key (Some archives) entries = (key, archives) ∷ entries
@@ -27,7 +27,7 @@ module _ {X : Type 0} where
   items_of None = []
   items_of (Some archives) = archives.items
 
-  -- each key has an index, and its archives are at the same
+  -- each key has an index, and its archives are at the same index
   pub record IsIndexed (keys : List (List ℕ)) (indices : List (List ℕ × ℕ)) (archives : List (Vec X)) : Type 0 where
     pub ordered : IsStrictlySortedBy bytes_cmp (keys_of indices)
     pub there : AllByRecursion (λ e. slice_get keys e.1 ≡ Some e.0) indices

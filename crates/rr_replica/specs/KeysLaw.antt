@@ -12,8 +12,8 @@ use Rattle.rr_replica.specs.Keys.{is_behind, keys_after}
 abbrev pub HasCell : List NamedCell → List ℕ → Type 0
 HasCell es key = Contains (map (λ e. e.0.key) es) key
 
--- some keys are the first ones, as many as are wanted, that have a cell and are behind another key: they are distinct
--- and ascend, and a key like that is missing only where as many are before it
+-- these keys are the first, at most as many as are wanted, that have a cell and come after another key: they are
+-- distinct and ascend, and such a key is missing only if as many as are wanted come before it
 pub record AreFirstBehind (after : Option (List ℕ)) (count : ℕ) (es : List NamedCell) (keys : List (List ℕ))
     : Type 0 where
   pub ascend : IsStrictlySortedBy bytes_cmp keys
@@ -22,7 +22,7 @@ pub record AreFirstBehind (after : Option (List ℕ)) (count : ℕ) (es : List N
   pub all : (key : List ℕ) → HasCell es key → is_behind after key ≡ true
       → Contains keys key ⊎ ((length keys ≡ count) × All (λ before. is_lt (bytes_cmp before key) ≡ true) keys)
 
--- so are those that are listed
+-- the keys that are listed are these
 abbrev pub ListedAreTheFirst : Type 0
 ListedAreTheFirst =
     (m : Cells) (after : Option (List ℕ)) (count : ℕ)

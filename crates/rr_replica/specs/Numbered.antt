@@ -1,4 +1,4 @@
--- Series by their numbers, which are counted from 0 in the order in which their keys came.
+-- Series by their numbers, counted from 0 in the order in which their keys came.
 use Rattle.std.specs.Prelude.{ℕ, ℤ, Bool, cond, List, [], ◌∷◌, ◌++◌, Option, None, Some, slice_get}
 use Rattle.std.specs.List.{list_any}
 use Rattle.std.specs.BTreeMap.{is_at}
@@ -10,7 +10,7 @@ use Rattle.rr_cells.specs.declared.op.Op.TheVariants.{Put}
 abbrev pub knows : List (List ℕ) → List ℕ → Bool
 knows keys key = list_any (is_at (bytes_cmp key)) keys
 
--- with a key more, unless it is one of them
+-- with one more key, unless it is one of them
 abbrev pub with_key : List (List ℕ) → List ℕ → List (List ℕ)
 with_key keys key = cond (knows keys key) keys (keys ++ key ∷ [])
 
@@ -20,6 +20,6 @@ put_of origin number time value None = []
 put_of origin number time value (Some key) =
     Put (record { origin = origin; number = number; key = key; time = time; value = value }) ∷ []
 
--- that of a sample of the series with a number, if there is one
+-- the put of a sample of the series with this number, if there is one
 abbrev pub puts_at : List (List ℕ) → ℕ → ℕ → ℕ → ℤ → ℤ → List Op
 puts_at keys origin series number time value = put_of origin number time value (slice_get keys series)

@@ -23,7 +23,7 @@ use Rattle.rr_cells.specs.Operations.{accepts}
 
 -- ---- room
 
--- of each key, and of each of its archives, the cell slots that it has room for
+-- for each key, and each of its archives, the cell slots that it has room for
 abbrev pub Room : Type 0
 Room = List (List ℕ × List (List CellSlot))
 
@@ -35,18 +35,18 @@ room_at room key i = get_or (unwrap_or (lookup (is_at (bytes_cmp key)) room) [])
 abbrev pub is_one_of : List CellSlot → CellSlot → Bool
 is_one_of ps p = list_any (eq_by_cmp cell_slot_cmp p) ps
 
--- the cell slots of a slot, of the origins from 1 on
+-- the cell slots of a slot, for this many origins from 1 on
 unfoldable pub cell_slots_of : ℤ → ℕ → List CellSlot
 cell_slots_of slot zero = []
 cell_slots_of slot (suc n) = cell_slot slot (suc n) ∷ cell_slots_of slot n
 
--- those of the slots that are at most so far from 0
+-- those of the slots at most this far from 0
 unfoldable pub cell_slots_within : ℕ → ℕ → List CellSlot
 cell_slots_within zero origins = cell_slots_of (pos 0) origins
 cell_slots_within (suc n) origins =
     cell_slots_of (pos (suc n)) origins ++ (cell_slots_of (negsuc n) origins ++ cell_slots_within n origins)
 
--- those of all slots of times, of all origins
+-- those of all slots of times, for all origins
 unfoldable pub all_cell_slots : List CellSlot
 all_cell_slots = cell_slots_within MAX_SECOND MAX_ORIGIN
 
@@ -61,7 +61,7 @@ pub record ReplicaWithRoom : Type 0 where
   pub keys : List (List ℕ)
   pub room : Room
 
--- its state, whatever the order of the keys and the room
+-- its state, without the order of the keys and the room
 abbrev pub replica_state : ReplicaWithRoom → ReplicaState
 replica_state r = record { schema = r.schema; origin = r.origin; next = r.next; cells = r.cells }
 

@@ -11,7 +11,7 @@ use Rattle.rr_cells.specs.Cells.{Cells, name_at}
 abbrev pub Series : Type 0
 Series = List (List ℕ × List ArchiveCells)
 
--- the cells of a key's archives, from this number on
+-- the cells of a key's archives, the first of which has this number
 abbrev pub cells_from : List ℕ → ℕ → List ArchiveCells → List NamedCell
 cells_from key archive [] = []
 cells_from key archive (r ∷ rs) = map (λ e. (name_at key archive e.0, e.1)) (entries r)
@@ -26,7 +26,7 @@ all_cells (e ∷ es) = cells_from e.0 0 e.1 ++ all_cells es
 unfoldable pub cells_of : Series → Cells
 cells_of series = from_entries (all_cells series)
 
--- the archive with a number, the first having this one; past the last nothing
+-- the archive with a number, the first of them having this one; empty if there is none
 abbrev pub archive_cells_from : ℕ → List ArchiveCells → ℕ → ArchiveCells
 archive_cells_from first [] archive = empty
 archive_cells_from first (r ∷ rs) archive = cond (archive == first) r (archive_cells_from (first + 1) rs archive)

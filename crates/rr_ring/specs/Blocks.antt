@@ -40,8 +40,8 @@ made_in (Some block) = length block.rows.items
 
 -- ---- a change
 
--- an entry was set in a slot, at the number or position `at`: of other slots it then stores nothing,
--- and all else is as before
+-- an entry was set in a slot, at the number or position `at`: it now stores nothing there of other slots, and all else
+-- is as before
 abbrev pub IsChanged : ℕ → ℤ → Entry → (ℕ → ℤ → List Entry) → (ℕ → ℤ → List Entry) → Type 0
 IsChanged at slot e old new =
     (i : ℕ) (s : ℤ)

@@ -17,7 +17,7 @@ IsArchiveState newest count ring = IsArchiveStateBy ring.rows newest count (ring
 abbrev pub is_ready_in : Option ℤ → Ring → CellSlot → Bool
 is_ready_in newest ring p = not (is_above ring.rows newest p.slot) || has_room ring p.slot p.origin
 
--- two slots, the second of which is not before the first
+-- two slots, the second not before the first
 pub record AreInOrder (one next : ℤ) : Type 0 where
   pub first : IsSlot one
   pub second : IsSlot next

@@ -17,7 +17,7 @@ pub record HasAdded (i : ℕ) (s t : Layout) : Type 0 where
   pub number : i < length s.archives
   pub others : t.archives ≡ without i s.archives
 
--- at most one archive is the one more
+-- only one archive can be the one more
 abbrev pub OneIsAdded : Type 0
 OneIsAdded = (i j : ℕ) (s t : Layout) → IsLayout s → HasAdded i s t → HasAdded j s t → i ≡ j
 
@@ -41,16 +41,16 @@ abbrev pub older : Layout → Addition → Layout
 older s Nothing = s
 older s (Archive i) = record { step = s.step; archives = without i s.archives }
 
--- whether these are the bytes of the archives that there were before it
+-- whether these are the bytes of the archives before an addition
 abbrev pub had_archives : Layout → List ℕ → Addition → Bool
 had_archives s bytes a = pointwise nat_eq bytes (flat_map archive_bytes (older s a).archives)
 
--- what was added to an older schema, if it is the schema before an addition: the bytes of its archives tell
+-- what was added to an older schema, found by the bytes of its archives, if it is the schema before an addition
 abbrev pub addition_since : Layout → Layout → Option Addition
 addition_since s t = if t.step == s.step then find (had_archives s (flat_map archive_bytes t.archives))
     (additions s) else None
 
--- they do, of schemas within their limits
+-- for schemas within their limits, an addition is found exactly if the older schema is the one before it
 abbrev pub AdditionsAreFound : Type 0
 AdditionsAreFound =
     (s t : Layout) (a : Addition) → IsLayout s → IsLayout t

@@ -6,7 +6,7 @@ use Rattle.rr_schema.specs.declared.fault.SchemaFault.TheVariants.{BadStep, NoAr
 use Rattle.rr_text.specs.Results.{first_fault}
 use Rattle.rr_text.specs.declared.limits.TheConstants.{MAX_STEP, MAX_ARCHIVES, MAX_STEPS, MAX_ROWS, MAX_XFF_DEN}
 
--- of an archive, the one before which has `before` steps, 0 if it is the first
+-- of an archive; the one before it has `before` steps, 0 if it is the first
 abbrev pub archive_fault : ℕ → ArchiveSpec → Option SchemaFault
 archive_fault before a =
     if a.steps == 0 || nat_lt MAX_STEPS a.steps then Some BadSteps
@@ -14,7 +14,7 @@ archive_fault before a =
     else (if nat_le a.den a.num || nat_lt MAX_XFF_DEN a.den then Some BadXff
     else (if nat_le a.steps before then Some StepsNotRising else None)))
 
--- of archives, the one before which has `before` steps
+-- of archives; the one before them has `before` steps
 abbrev pub archives_fault : ℕ → List ArchiveSpec → Option SchemaFault
 archives_fault before [] = None
 archives_fault before (a ∷ others) = first_fault (archive_fault before a) (archives_fault a.steps others)

@@ -19,7 +19,7 @@ pub record IsArchive (a : ArchiveSpec) : Type 0 where
   pub fraction : a.num < a.den
   pub fine : a.den ≤ MAX_XFF_DEN
 
--- a layout within the limits, whose archives have more and more steps in a row
+-- a layout within the limits, each of whose archives has more steps in a row than the one before
 pub record IsLayout (s : Layout) : Type 0 where
   pub some_step : 1 ≤ s.step
   pub short_step : s.step ≤ MAX_STEP
@@ -62,8 +62,8 @@ abbrev pub is_known_enough : Layout → ℕ → ℕ → Bool
 is_known_enough s i known =
     let a = archive_at s i in nat_le ((a.steps - known) * a.den) (a.num * a.steps)
 
--- the number of the last of these archives whose span is not above the resolution, the first of them
--- having the number `next`; `found` without one
+-- the number of the last of these archives whose span is not above the resolution, the first of them having the number
+-- `next`; `found` if there is none
 abbrev pub last_within : ℕ → ℕ → ℕ → ℕ → List ArchiveSpec → ℕ
 last_within step resolution found next [] = found
 last_within step resolution found next (a ∷ others) =

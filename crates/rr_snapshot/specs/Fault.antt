@@ -28,7 +28,7 @@ load_fault_name why.TrailingBytes = codes "TrailingBytes"
 load_fault_name why.OriginUsed = codes "OriginUsed"
 load_fault_name why.Memory = codes "Memory"
 
--- a fault of a field that stands in a page too; none of a snapshot is TooManyCells
+-- the fault of a field that a page has too; no fault of a snapshot is TooManyCells
 abbrev pub load_fault : PageFault → LoadFault
 load_fault page.Short = why.Short
 load_fault page.BadMagic = why.BadMagic

@@ -14,8 +14,8 @@ use Rattle.rr_snapshot.specs.Snapshot.{snapshot_text}
 use Rattle.rr_cells.specs.Raising.{raised_cells}
 use Rattle.rr_snapshot.specs.Loading.{loaded_at}
 
--- what a replica was saved as is loaded, under its schema and an origin that is neither its own nor that of one of its
--- cells, as a replica of that origin with the same cells and the first number
+-- a saved replica is loaded, under its schema and an origin that is neither its own nor that of one of its cells, as a
+-- replica of that origin with the same cells and the first number
 abbrev pub SavedIsLoaded : Type 0
 SavedIsLoaded =
     (h : ReplicaState) (origin : ℕ) → IsReplicaState h → len h.cells ≤ MAX_SNAPSHOT_CELLS → origin ≢ h.origin
@@ -23,7 +23,7 @@ SavedIsLoaded =
     → loaded_at h.schema origin (snapshot_text latest h.schema h.origin (entries h.cells))
     ≡ Ok (record { schema = h.schema; origin = origin; next = 1; cells = h.cells })
 
--- under a schema that has one archive more it is loaded with the same cells, and the numbers of their archives raised
+-- under the schema after an addition it is loaded with the same cells, the numbers of their archives raised
 abbrev pub SavedIsRaised : Type 0
 SavedIsRaised =
     (h : ReplicaState) (s : Layout) (a : Addition) (origin : ℕ) → IsReplicaState h → IsLayout s

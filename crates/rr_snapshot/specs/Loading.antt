@@ -1,4 +1,4 @@
--- What is made of a snapshot that is read.
+-- What is loaded from a snapshot, and what a call that loads it did.
 use Rattle.std.specs.Prelude.{◌≡◌, ◌⊎◌, ◌<◌, ℕ, Bool, false, ◌||◌, ◌==◌, List, map, Option, None, Some, IfSome, Result, Ok, Err, OnOk}
 use Rattle.std.specs.FinMap.{empty}
 use Rattle.std.specs.List.{list_any}
@@ -26,11 +26,11 @@ use Rattle.rr_cells.specs.Raising.{raised_cell}
 abbrev pub is_among : ℕ → List NamedCell → Bool
 is_among origin es = list_any (λ e. e.0.origin == origin) es
 
--- whether it is that under which a snapshot was saved, or of one of its cells
+-- whether it is the one that a snapshot was saved under, or that of one of its cells
 abbrev pub is_used : ℕ → ℕ → List NamedCell → Bool
 is_used origin saver es = (saver == origin) || is_among origin es
 
--- the replica of an origin that has written nothing, with these cells, which are of before an addition, joined in
+-- the replica of an origin that has written nothing, with these cells from before an addition joined in
 abbrev pub replica_of : Layout → Addition → ℕ → List NamedCell → ReplicaState
 replica_of s a origin es = record {
   schema = s;
@@ -40,7 +40,7 @@ replica_of s a origin es = record {
       join_cells s empty (map (raised_cell a) es);
 }
 
--- the replica of a new origin that is loaded from the snapshot that all of the bytes are
+-- the replica of a new origin that is loaded from all of the bytes, read as a snapshot
 unfoldable pub loaded_at : Layout → ℕ → List ℕ → Result ReplicaState LoadFault
 loaded_at s origin bytes = do
   x ← snapshot_at s bytes
@@ -51,7 +51,7 @@ abbrev pub GivesIfRead : {A B : Type 0} → (A → B) → Result A LoadFault →
 GivesIfRead view (Ok x) answer = answer ≡ Ok (view x)
 GivesIfRead view (Err fault) answer = (fault ≡ ReadFailed) ⊎ (fault ≡ Memory) ⊎ (answer ≡ Err fault)
 
--- of the cells after a head one was read, and those before it are good and in order; what follows it is left
+-- one of the cells after a head was read, and those before it are good and in order; what follows it is left
 pub record StopsAtCell (s : Layout) (head : Head) (bytes : List ℕ) (new : Option (List ℕ)) : Type 0 where
   pub done : ℕ
   pub before : List NamedCell
@@ -63,19 +63,19 @@ pub record StopsAtCell (s : Layout) (head : Head) (bytes : List ℕ) (new : Opti
   pub is_read : cell_at head.version (older s head.addition) rest ≡ Ok (cell, left)
   pub stops : new ≡ Some left
 
--- nothing after a head was read, or one of the cells after it was the last
+-- nothing after a head was read, or one of the cells after it was the last that was read
 abbrev pub StopsAmong : Layout → Head → List ℕ → Option (List ℕ) → Type 0
 StopsAmong s head bytes new = (new ≡ Some bytes) ⊎ StopsAtCell s head bytes new
 
--- nothing was read; or the head is good, and nothing after it was read, or one of its cells was the last
+-- nothing was read; or the head is good, and nothing after it was read, or one of its cells was the last that was read
 abbrev pub StopsBeforeDigest : Layout → Option (List ℕ) → Option (List ℕ) → Type 0
 StopsBeforeDigest s old new =
     (new ≡ old)
     ⊎ IfSome old (λ bytes. (head : Head) × (after : List ℕ) × (head_at s bytes ≡ Ok (head, after))
     × StopsAmong s head after new)
 
--- what a replica holds after these cells, which are of before an addition, were joined into it, in order, and whether
--- one is of its own origin: where none is, its next number stays
+-- what a replica holds after these cells from before an addition were joined into it, in order, and whether one is of
+-- its own origin; if none is, its next number stays
 pub record HasJoined (a : Addition) (old new : ReplicaState) (own : Bool) (es : List NamedCell) : Type 0 where
   pub schema : new.schema ≡ old.schema
   pub origin : new.origin ≡ old.origin
@@ -83,7 +83,7 @@ pub record HasJoined (a : Addition) (old new : ReplicaState) (own : Bool) (es : 
   pub any : own ≡ is_among old.origin es
   pub next : own ≡ false → new.next ≡ old.next
 
--- what a call did that loads the cells after a head: it digested what it took, and memory ran out only before they were
+-- what a call that loads the cells after a head did: it digested what it took, and memory ran out only before they were
 -- read, or at one that is good, as all before it are
 pub record LoadsCells {R X : Type 0} (s : Layout) (head : Head) (remaining : R → Option (List ℕ)) (old new : Counted R)
     (before after : Sha256) (result : Result X LoadFault) : Type 0 where
@@ -92,8 +92,8 @@ pub record LoadsCells {R X : Type 0} (s : Layout) (head : Head) (remaining : R �
   pub memory : result ≡ Err Memory → IfSome (remaining (inner_of old))
       (λ bytes. StopsAmong s head bytes (remaining (inner_of new)))
 
--- what a call did that loads all of the input: it read it out, and memory ran out only before the digest, where all
--- that it had read is good
+-- what a call that loads all of the input did: it read it to the end, and memory ran out only before the digest, when
+-- all that it had read was good
 pub record LoadsAll {R X : Type 0} (s : Layout) (remaining : R → Option (List ℕ)) (old new : Counted R)
     (result : Result X LoadFault) : Type 0 where
   pub end : OnOk result (IsReadOut remaining new)

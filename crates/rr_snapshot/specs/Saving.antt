@@ -1,4 +1,4 @@
--- What a call did that writes a snapshot, or a part of one.
+-- What a call that writes a snapshot, or a part of one, did.
 use Rattle.std.specs.Prelude.{◌≡◌, ◌≢◌, ℕ, List, ◌++◌, Option, Result, Err, OnOk}
 use Rattle.sha2.specs.Hashers.{Holds256}
 use Rattle.sha2.specs.declared.Sha256.{Sha256}
@@ -7,7 +7,7 @@ use Rattle.rr_io.specs.Stream.{HasFailed, KeepsFailures, WritesPrefix, WritesWho
 use Rattle.rr_snapshot.specs.declared.fault.SaveFault.{SaveFault}
 use Rattle.rr_snapshot.specs.declared.fault.SaveFault.TheVariants.{TooManyCells, WriteFailed}
 
--- a text was written whole, or a prefix of it was; the writer is blamed only if a call of it failed
+-- a text was written whole, or a prefix of it was; the writer is blamed only if a call to it failed
 pub record Saves {W : Type 0} (contents : W → Option (List ℕ)) (old new : Counted W) (text : List ℕ)
     (result : Result (Unit {0}) SaveFault) : Type 0 where
   pub whole : OnOk result (WritesWhole contents old new text)
@@ -15,8 +15,8 @@ pub record Saves {W : Type 0} (contents : W → Option (List ℕ)) (old new : Co
   pub failures_never_fall : KeepsFailures old new
   pub failed : result ≡ Err WriteFailed → HasFailed old new
 
--- a part of a snapshot was written whole, or a prefix of it was, and what was written whole was digested; the writer
--- is blamed only if a call of it failed
+-- a part of a snapshot was written whole, or a prefix of it was, and what was written whole was digested; the writer is
+-- blamed only if a call to it failed
 pub record SavesPart {W : Type 0} (contents : W → Option (List ℕ)) (old new : Counted W) (before after : Sha256)
     (text : List ℕ) (result : Result (Unit {0}) SaveFault) : Type 0 where
   pub whole : OnOk result (WritesWhole contents old new text)

@@ -33,7 +33,7 @@ unfoldable pub head_text : Version → Layout → ℕ → ℕ → List ℕ
 head_text v s origin count = magic ++ (version_byte v ∷
     (schema_bytes s ++ (to_be_bytes w16 origin ++ to_be_bytes w32 count)))
 
--- after them the cells
+-- and after them the cells
 unfoldable pub body_text : Version → Layout → ℕ → List NamedCell → List ℕ
 body_text v s origin es = head_text v s origin (length es) ++ flat_map (cell_text v) es
 
@@ -41,8 +41,8 @@ body_text v s origin es = head_text v s origin (length es) ++ flat_map (cell_tex
 unfoldable pub snapshot_text : Version → Layout → ℕ → List NamedCell → List ℕ
 snapshot_text v s origin es = body_text v s origin es ++ sha256 (body_text v s origin es)
 
--- the bytes are the text of these cells after a head that a schema's reader accepts: the schema is the reader's
--- before an addition, has an archive, and the version has masks for it
+-- the bytes are the text of these cells after a head that a reader accepts: its schema is the reader's before an
+-- addition, and has an archive, and the version has masks for it
 pub record IsSnapshotText (s : Layout) (head : Head) (es : List NamedCell) (bytes : List ℕ) : Type 0 where
   pub addition : IsAddition s head.addition
   pub some : 1 ≤ length (older s head.addition).archives

@@ -26,7 +26,7 @@ abbrev pub as_in_page : {A : Type 0} → Result A PageFault → Result A LoadFau
 as_in_page (Ok x) = Ok x
 as_in_page (Err fault) = Err (load_fault fault)
 
--- whether a schema may have had this step and so many archives before an addition
+-- whether a schema may have had this step and this many archives before an addition
 abbrev pub may_have_had : Layout → ℕ → ℕ → Bool
 may_have_had s step number =
     step == s.step && not (number == 0) && (number == length s.archives || number + 1 == length s.archives)
@@ -49,16 +49,16 @@ start_at s bytes = do
 abbrev pub fits_addition : Version → Layout → List ℕ → Addition → Bool
 fits_addition v s field a = has_masks_for v (older s a) && had_archives s field a
 
--- so what was added to the schema since
+-- so what was added to the schema since, if anything fits
 abbrev pub fitting_addition : Version → Layout → List ℕ → Option Addition
 fitting_addition v s field = find (fits_addition v s field) (additions s)
 
--- an addition to as many archives as this
+-- an addition to this many archives
 pub record IsAdditionTo (s : Layout) (number : ℕ) (a : Addition) : Type 0 where
   pub addition : IsAddition s a
   pub archive_count : number ≡ length (older s a).archives
 
--- what was added since there were so many archives, and the origin, and what follows them
+-- what was added since there were this many archives, and the origin, and what follows them
 unfoldable pub archives_at : Version → Layout → ℕ → List ℕ → Result ((Addition × ℕ) × List ℕ) PageFault
 archives_at v s number bytes = do
   field ← prefix_at (9 * number) bytes
@@ -74,7 +74,7 @@ head_at s bytes = do
   count ← unless BadOrigin (from.0.1 == 0) (as_in_page (number_at w32 from.1))
   Ok (record { version = start.0.0; addition = from.0.0; origin = from.0.1; count = count.0 }, count.1)
 
--- a digest, and what follows it
+-- this digest, and what follows it
 unfoldable pub digest_at : List ℕ → List ℕ → Result (Unit {0} × List ℕ) LoadFault
 digest_at digest bytes = do
   field ← as_in_page (prefix_at 32 bytes)
@@ -92,7 +92,7 @@ bytes_before rest bytes = take (length bytes - length rest) bytes
 abbrev pub cells_after : Layout → Head → List ℕ → Result (List NamedCell × List ℕ) LoadFault
 cells_after s head bytes = as_in_page (cells_at head.version (older s head.addition) None head.count bytes)
 
--- the head and the cells of the snapshot that all of the bytes are
+-- the head and the cells of all of the bytes, read as a snapshot
 unfoldable pub snapshot_at : Layout → List ℕ → Result (Head × List NamedCell) LoadFault
 snapshot_at s bytes = do
   head ← head_at s bytes

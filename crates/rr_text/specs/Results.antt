@@ -1,7 +1,7 @@
--- Results in definitions: one step after another, and when an answer of the code is a definition's.
+-- Results in definitions: one step after another, and when an answer of the code is that of a definition.
 use Rattle.std.specs.Prelude.{◌≡◌, Bool, ◌⊎◌, Option, None, Some, Result, Ok, Err, IsOk, if◌then◌else◌}
 
--- the next step, where this one is not refused
+-- the next step, if this one is not refused
 infixl 10 ◌>>=◌
 abbrev pub ◌>>=◌ : {A B E : Type 0} → Result A E → (A → Result B E) → Result B E
 (Ok x) >>= next = next x
@@ -25,21 +25,21 @@ unless_faulty (Some fault) value = Err fault
 abbrev pub check : {E : Type 0} → Bool → E → Result (Unit {0}) E
 check test fault = if test then Ok tt else Err fault
 
--- the result, seen by a view, is the definition's answer
+-- the result, seen through a view, is the definition's answer
 abbrev pub Gives : {X Y E : Type 0} → (X → Y) → Result X E → Result Y E → Type 0
 Gives view (Ok x) answer = answer ≡ Ok (view x)
 Gives view (Err fault) answer = answer ≡ Err fault
 
--- the result, seen by a view, is the definition's answer, unless memory ran out
+-- the result, seen through a view, is the definition's answer, unless memory ran out
 abbrev pub GivesUnless : {X Y E : Type 0} → E → (X → Y) → Result X E → Result Y E → Type 0
 GivesUnless memory view (Ok x) answer = answer ≡ Ok (view x)
 GivesUnless memory view (Err fault) answer = (fault ≡ memory) ⊎ (answer ≡ Err fault)
 
--- the result, seen by a view, is in a relation, unless memory ran out
+-- this holds of the result, seen through a view, unless memory ran out
 abbrev pub AnswersUnless : {X Y E : Type 0} → E → (X → Y) → Result X E → (Result Y E → Type 0) → Type 0
 AnswersUnless memory view (Ok x) Is = Is (Ok (view x))
 AnswersUnless memory view (Err fault) Is = (fault ≡ memory) ⊎ Is (Err fault)
 
--- memory runs out only where these steps of the definition, which take none, are not refused
+-- memory runs out only if these steps of the definition, which need none, are not refused
 abbrev pub NeedsMemoryAfter : {A X E : Type 0} → E → Result A E → Result X E → Type 0
 NeedsMemoryAfter memory steps result = result ≡ Err memory → IsOk steps

@@ -1,4 +1,4 @@
--- What the words of a command line ask for, by what clap makes of them.
+-- What the words of a command line ask for, as clap reads them.
 use Rattle.std.specs.Prelude.{◌≡◌, ℕ, ◌&&◌, nat_le, ℤ, pos, List, codes, Option, Some, None, option_map, string_bytes, if◌then◌else◌}
 use Rattle.std.specs.Option.{option_and_then}
 use Rattle.std.specs.Str.{bytes_eq}
@@ -42,7 +42,7 @@ abbrev pub moment_at : Option Text → Option ℤ
 moment_at None = Some (pos 0)
 moment_at (Some text) = integer_at text
 
--- what `check-lines` asks for by the texts of its two options
+-- what `check-lines` asks for, from the texts of its two options
 abbrev pub lines_asked_by : Option Text → Option Text → Option Asked
 lines_asked_by precision now =
     option_and_then (λ p. option_map (check_lines p) (moment_at now)) (precision_at precision)
@@ -60,7 +60,7 @@ origin_at text =
 abbrev pub origin_in : Option Text → Option ℕ
 origin_in = option_and_then origin_at
 
--- what `serve` asks for by the texts of its configuration, origin and files
+-- what `serve` asks for, from the texts of its configuration, origin and files
 abbrev pub serve_asked_by : Option Text → Option Text → Option Text → Option Text → Option Asked
 serve_asked_by config origin load save =
     option_and_then (λ c. option_map (λ o. serve c o load save) (origin_in origin)) config
@@ -71,7 +71,7 @@ serve_asked rows =
     serve_asked_by (first_of (codes "CONFIG") rows) (first_of (codes "origin") rows)
     (first_of (codes "load") rows) (first_of (codes "save") rows)
 
--- what `node` asks for by the texts of its configuration, directory and file
+-- what `node` asks for, from the texts of its configuration, directory and file
 abbrev pub node_asked_by : Option Text → Option Text → Option Text → Option Asked
 node_asked_by config folder load = option_and_then (λ c. option_map (λ f. node c f load) folder) config
 
@@ -88,7 +88,7 @@ journal_word_at text =
 abbrev pub journal_word_in : Option Text → Option JournalWord
 journal_word_in = option_and_then journal_word_at
 
--- what `journal` asks for by its two texts
+-- what `journal` asks for, from its two texts
 abbrev pub journal_asked_by : Option Text → Option Text → Option Asked
 journal_asked_by what folder = option_and_then (λ w. option_map (journal w) folder) (journal_word_in what)
 
@@ -96,7 +96,7 @@ journal_asked_by what folder = option_and_then (λ w. option_map (journal w) fol
 abbrev pub journal_asked : List Row → Option Asked
 journal_asked rows = journal_asked_by (first_of (codes "WHAT") rows) (first_of (codes "DIR") rows)
 
--- what a subcommand and its values ask for, or no subcommand
+-- what a subcommand and its values ask for; without one, `sim` without a file
 abbrev pub asked_of : Option (Text × List Row) → Option Asked
 asked_of None = Some (sim None)
 asked_of (Some met) =
@@ -106,7 +106,7 @@ asked_of (Some met) =
     else (if bytes_eq met.0 (codes "node") then node_asked met.1
     else (if bytes_eq met.0 (codes "journal") then journal_asked met.1 else None))))
 
--- what words ask for that clap finds no fault in
+-- what words ask for, if clap finds no fault in them
 abbrev pub asked_at : List Text → Option Asked
 asked_at words =
     if is_empty (fault_of program_app words) then asked_of (subcommand_of program_app words) else None

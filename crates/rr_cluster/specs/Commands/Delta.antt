@@ -10,7 +10,7 @@ use Rattle.rr_cluster.specs.State.{State, with_page}
 use Rattle.rr_cluster.specs.Words.{is_name}
 
 module _ {K : Type 0} (model : Model K) where
-  -- a page of what the giver has and the taker lacks; it takes the place of one of its name
+  -- a page of what the giver has and the taker lacks; it replaces one of that name
   unfoldable pub after_delta : State K → List ℕ → List ℕ → List ℕ → List ℕ → List ℕ → Result (State K) CommandFault
   after_delta m name giver taker from count = do
     named ← check (is_name name) BadName

@@ -24,7 +24,7 @@ module _ {K : Type 0} (model : Model K) where
     absent ← check (not (has_origin x number)) OriginUsed
     Ok (record { schema = s; origin = number; next = 1; contents = model.raised addition x.contents })
 
-  -- the node may be new, and a node of that name is replaced; the origin of that one stays used
+  -- the node may be new, or replaces one of that name, whose origin stays used
   unfoldable pub after_load : State K → List ℕ → List ℕ → List ℕ → Result (State K) CommandFault
   after_load m name node origin = do
     x ← ok_or (get m.snapshots name) NoSnapshot

@@ -10,7 +10,7 @@ use Rattle.rr_cluster.specs.Model.{Model}
 use Rattle.rr_cluster.specs.State.{State, with_page}
 use Rattle.rr_cluster.specs.Words.{is_name, number_within}
 
--- the place of a page's first cell, and the most cells
+-- the place of a page's first cell, and how many cells it has at most
 abbrev pub place_and_count : List ℕ → List ℕ → Result (ℕ × ℕ) CommandFault
 place_and_count from count = do
   place ← ok_or (number_within 0 MAX_U32 from) BadNumber
@@ -18,7 +18,7 @@ place_and_count from count = do
   Ok (place, most)
 
 module _ {K : Type 0} (model : Model K) where
-  -- a page of a name that is used takes the place of the one before
+  -- a page replaces one of that name
   unfoldable pub after_page : State K → List ℕ → List ℕ → List ℕ → List ℕ → Result (State K) CommandFault
   after_page m name node from count = do
     named ← check (is_name name) BadName

@@ -15,7 +15,7 @@ module _ {K : Type 0} (model : Model K) where
   abbrev pub snapshot_of : Node K → Snapshot K
   snapshot_of n = record { schema = n.schema; origin = n.origin; contents = model.kept n.schema n.contents }
 
-  -- a snapshot of a name that is used takes the place of the one before
+  -- a snapshot replaces one of that name
   unfoldable pub after_save : State K → List ℕ → List ℕ → Result (State K) CommandFault
   after_save m name node = do
     named ← check (is_name name) BadName

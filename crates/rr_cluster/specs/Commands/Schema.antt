@@ -9,7 +9,7 @@ use Rattle.rr_cluster.specs.declared.words.TheConstants.{MAX_U32}
 use Rattle.rr_text.specs.Results.{◌>>=◌}
 use Rattle.rr_cluster.specs.Words.{archives_of, number_within}
 
--- a schema, where it has no fault
+-- a schema, if it has no fault
 abbrev pub unless_faulty : Option SchemaFault → Layout → Result Layout CommandFault
 unless_faulty None layout = Ok layout
 unless_faulty (Some fault) layout = Err (Schema fault)

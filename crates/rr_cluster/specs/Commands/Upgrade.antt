@@ -12,13 +12,13 @@ use Rattle.rr_cluster.specs.Commands.Schema.{unless_faulty}
 use Rattle.rr_cluster.specs.State.{State}
 use Rattle.rr_cluster.specs.Words.{archive_of}
 
--- a schema with an archive more, where it has no fault
+-- a schema with one more archive, if it has no fault
 abbrev pub layout_with : Layout → ArchiveSpec → Result Layout CommandFault
 layout_with s a =
     let archives = with_archive a s.archives in
     unless_faulty (schema_fault s.step archives) (record { step = s.step; archives = archives })
 
--- the schema has an archive more; nodes and pages are gone, and their names are free, while snapshots stay as they are
+-- the schema has one more archive; nodes and pages are gone, and their names are free, while snapshots stay as they are
 -- and origins stay used
 unfoldable pub after_upgrade : {K : Type 0} → State K → List ℕ → Result (State K) CommandFault
 after_upgrade m word = do

@@ -40,24 +40,24 @@ with_samples w [] = w
 with_samples w (x ∷ xs) = with_samples (with_sample w x) xs
 
 module _ {K : Type 0} where
-  -- the samples of a point at a node; one without a time is of the clock's moment
+  -- the samples of a point at a node; a point without a time has the clock's
   abbrev pub samples_at : Node K → ℤ → PointView → List Sample
   samples_at n clock p = samples_of n.origin n.next (unwrap_or p.time clock) p p.fields
 
-  -- the samples that a node writes of a point: none of one that is later than the lead allows, or for whose
-  -- fields too few numbers are left
+  -- the samples that a node writes for a point, unless it is later than the lead allows, or too few numbers are left
+  -- for its fields
   abbrev pub samples_of_point : Node K → ℤ → Option ℕ → PointView → Result (List Sample) CommandFault
   samples_of_point n clock lead p = do
     timely ← check (not (is_ahead p.time clock lead)) (Write AheadOfClock)
     enough ← check (not (nat_lt (MAX_NUMBER + 1 - n.next) (length p.fields))) (Write NumbersSpent)
     Ok (samples_at n clock p)
 
-  -- the samples that a node writes of what a line says: none of a line that says nothing
+  -- the samples that a node writes for what a line says: none if it says nothing
   abbrev pub samples_of_view : Node K → ℤ → Option ℕ → LineView → Result (List Sample) CommandFault
   samples_of_view n clock lead nothing = Ok []
   samples_of_view n clock lead (point p) = samples_of_point n clock lead p
 
-  -- the samples that a node writes of a line
+  -- the samples that a node writes for a line
   abbrev pub samples_of_line : Node K → ℤ → Option ℕ → List ℕ → Result (List Sample) CommandFault
   samples_of_line n clock lead line = do
     view ← line_of (reading Ns line)
