@@ -1,17 +1,18 @@
 #!/usr/bin/env python3
-"""What a batch, a checkpoint and a start cost a node with a directory that holds many cells: `rr node`.
+"""What a batch, a checkpoint and a start cost a node whose directory holds many cells: `rr node`.
 
 usage: batches.py [PROGRAM] [--cells CELLS] [--check]
 
-The node takes CELLS samples (4,000,000 if left out), a new cell each, of 4,000 series, over HTTP. Then these are printed:
+The node takes CELLS samples (4,000,000 by default) of 4,000 series, each a new cell, over HTTP. Printed are how many a
+second it takes, and then:
 
-- the processor time of the node for a request with 1,000 new samples, one of each of 1,000 series, the mean of 50;
-- how long a write of one line waited at most while a checkpoint was written, and how long that took;
-- the memory at most;
-- how long a start took after the node was killed, up to its first answer, and how many bytes it read.
+- the node's processor time for a request with 1,000 new samples, one of each of 1,000 series, the mean of 50;
+- how long a one-line write waited at most while a checkpoint was written, and how long the checkpoint took;
+- the peak memory;
+- how long a start after a kill took, up to the first answer, and how many bytes the directory had.
 
-TMPDIR names the folder that has the node's directory. Status 1: the node answers otherwise than expected; with --check also
-where a request takes more than 20 ms, a write waits for more than 50 ms, or a start takes more than 5 s.
+The node's directory is made in TMPDIR. Status 1: the node answers otherwise than expected; with --check also if a
+request takes more than 20 ms, a write waits for more than 50 ms, or a start takes more than 5 s.
 """
 
 import argparse
@@ -48,13 +49,13 @@ xff_den = 1
 
 
 def processor_seconds(process):
-    """The processor time of a process until now."""
+    """The processor time of a process so far."""
     fields = pathlib.Path(f"/proc/{process.pid}/stat").read_text().rpartition(")")[2].split()
     return (int(fields[11]) + int(fields[12])) / os.sysconf("SC_CLK_TCK")
 
 
 class Node:
-    """A node with a directory in a folder."""
+    """A node with its directory in a folder."""
 
     def __init__(self, program, folder, rows):
         self.port, self.data = free_port(), folder / "data"
@@ -64,7 +65,7 @@ class Node:
         self.start()
 
     def start(self):
-        """Starts it, and gives the seconds up to its first answer."""
+        """Starts it, and returns the seconds up to its first answer."""
         before = time.perf_counter()
         self.process = subprocess.Popen(self.words)
         while True:
@@ -82,7 +83,7 @@ class Node:
         self.process.wait()
 
     def write(self, body):
-        """Has it take lines, and gives the seconds up to the answer."""
+        """Has it take lines, and returns the seconds up to the answer."""
         before = time.perf_counter()
         self.connection.request("POST", "/write", body=body)
         answer = self.connection.getresponse()
@@ -99,7 +100,7 @@ class Node:
 
 
 def bodies(series, first, minutes):
-    """Bodies of lines, one of each series for each minute."""
+    """Bodies of lines, one line for each series and minute."""
     lines = []
     for minute in range(first, first + minutes):
         for one in range(series):
@@ -113,7 +114,7 @@ def bodies(series, first, minutes):
 
 
 def batch(node, minute):
-    """The node's processor time of a request with 1,000 new samples."""
+    """The node's processor time for a request with 1,000 new samples."""
     count = 50
     texts = [next(bodies(1_000, minute + i, 1)) for i in range(count)]
     before = processor_seconds(node.process)
@@ -123,7 +124,7 @@ def batch(node, minute):
 
 
 def checkpoint(node, minute):
-    """How long a write of one line waited at most while a checkpoint was written, and how long that was."""
+    """How long a one-line write waited at most while a checkpoint was written, and how long the checkpoint took."""
     known = {it.name for it in node.files(".rrj")}
     for text in bodies(SERIES, minute, 4_000):
         node.write(text)

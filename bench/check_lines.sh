@@ -1,7 +1,6 @@
 #!/bin/sh
-# Times the check of whole lines, each of three fields, by the built program, beside a plain read of
-# the same file and, where one is installed, a stock tool that reads such lines:
-# bench/check_lines.sh [LINES]
+# Times how the built program checks whole lines of three fields, beside a plain read of the same file and, if one is
+# installed, a stock tool that reads such lines: bench/check_lines.sh [LINES]
 set -eu
 top=$(cd "$(dirname "$0")/.." && pwd)
 lines=${1:-1000000}

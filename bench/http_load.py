@@ -1,21 +1,22 @@
 #!/usr/bin/env python3
-"""What a node bears over HTTP: requests a second, by wrk, and how long a good client waits among bad ones.
+"""What a node can bear over HTTP: requests a second, by wrk, and how long a good client waits among bad ones.
 
     bench/http_load.py PROGRAM [--seconds SECONDS] [--parts PART ..] [--check]
 
-PROGRAM is the built program, crates/rr_tool/out/rr_tool; wrk is Debian's package of that name. Each figure is of SECONDS
-seconds, 5 if left out. PART is one of these, all of them if left out:
+PROGRAM is the built program, crates/rr_tool/out/rr_tool; wrk is Debian's package of that name. Each figure is taken
+over SECONDS seconds, 5 by default. PART is one of these; all of them are the default:
 
-- reads: wrk with 64 and with 1,000 connections that stay, for fetches of 100 rows and for /health
-- writes: wrk with 16 connections that post 1,000 lines a request, and with 64 that post one; each line is a new row, and is
-  synced to the journal in the folder of TMPDIR before it is answered
-- crowd: a client that asks for one thing after the other, alone and beside 1,000 heads and 1,000 bodies that come at a byte
-  a second, 1,000 connections that send nothing, 300 uploads of 8 MiB that stop before their end, and 1,000 line connections
-  that stop within a line. Each of these is opened again a second after the node has ended it. Then the node's memory
+- reads: wrk with 64 and with 1,000 connections that stay open, for fetches of 100 rows and for /health
+- writes: wrk with 16 connections that post 1,000 lines a request, and with 64 that post one; each line is a new row,
+  and is synced to the journal, in TMPDIR, before it is answered
+- crowd: a client that makes one request after another, alone and beside 1,000 heads and 1,000 bodies that arrive at a
+  byte a second, 1,000 connections that send nothing, 300 uploads of 8 MiB that stop before their end, and 1,000 line
+  connections that stop within a line. Each of these is opened again a second after the node has ended it. Then the
+  node's memory
 
-Prints a line a figure, and before them how busy the machine was. Run it on an idle machine. With --check it ends with
-status 1 where a figure misses its goal: 45,000 fetches and 40,000 times /health a second on 64 connections, 39,500 writes of
-a line; in the crowd 20 ms in 99 of 100 for what is short, none that isn't answered, and 300 MB.
+Prints a line for each figure, and before them how busy the machine was. Run it on an idle machine. With --check it ends
+with status 1 if a figure misses its goal: 45,000 fetches and 40,000 requests for /health a second on 64 connections,
+39,500 writes of a line; in the crowd, and alone, 20 ms for 99 of 100 short requests, none unanswered; and 300 MB.
 """
 
 import argparse
@@ -51,13 +52,13 @@ xff_num = 0
 xff_den = 1
 """
 
-# Descriptors of the node and of the crowd: a connection has one at either end.
+# File descriptors of the node and of the crowd: a connection has one at either end.
 DESCRIPTORS = 10_000
 
 FETCH = "/fetch?cf=AVERAGE&resolution=60&start=0&end=6000&key=load,from=0+n"
 
-# Each thread of wrk writes to 64 series of its own in turns, more than it has requests out: so the rows of each come in
-# order.
+# Each thread of wrk writes to 64 series of its own in turn, more than it has requests in flight, so the rows of each
+# come in order.
 SCRIPT = """\
 local threads = 0
 function setup(thread)
@@ -79,7 +80,7 @@ end
 MIB = 1024**2
 HEAD = b"POST /write HTTP/1.1\r\nHost: a\r\nContent-Length: %d\r\n\r\n"
 
-# Who does what no client should: how many, to which port, what each sends at once, and then each second.
+# Those who do what no client should: how many, to which port, what each sends at once, and then each second.
 CROWD = {
     "heads at a byte a second": (1_000, "http", b"POST /write HTTP/1.1\r\nHo", b"o"),
     "bodies at a byte a second": (1_000, "http", HEAD % MIB, b"m"),
@@ -88,10 +89,10 @@ CROWD = {
     "line connections within a line": (1_000, "lines", b"m v=1", b""),
 }
 
-# What a good client asks for that isn't short.
+# The request of a good client that isn't short.
 LONG = "a write of 10,000 lines"
 
-# What a good client asks for: the method, the path, and the body.
+# The requests of a good client: the method, the path, and the body.
 ASKED = {
     "/health": ("GET", "/health", None),
     "a fetch of 100 rows": ("GET", FETCH, None),
@@ -113,12 +114,12 @@ class Node:
             post(connection, "/write", lines_of(0, 0))
 
     def memory(self):
-        """The memory that it has and had at most, in MB."""
+        """Its current and its peak memory, in MB."""
         status = pathlib.Path(f"/proc/{self.process.pid}/status").read_text()
         return [int(re.search(rf"{name}:\s+(\d+)", status).group(1)) / 1024 for name in ("VmRSS", "VmHWM")]
 
     def numbers(self):
-        """Its own counts, by their names."""
+        """Its own counts, by name."""
         with connected(self.http) as connection:
             connection.request("GET", "/metrics")
             lines = connection.getresponse().read().decode().splitlines()
@@ -140,7 +141,7 @@ def node(program):
 
 
 def wrk(url, connections, seconds, *words):
-    """What wrk says of requests to an address: how many a second, and a text of their waits and faults."""
+    """What wrk says about requests to an address: how many a second, and a text of their waits and faults."""
     threads = min(connections, max(2, (os.cpu_count() or 2) // 2))
     words = ["wrk", f"-t{threads}", f"-c{connections}", f"-d{seconds}s", "--latency", *words, url]
     said = subprocess.run(words, capture_output=True, text=True, check=True).stdout
@@ -193,7 +194,7 @@ async def hold_once(port, begin, more, opened):
 
 
 async def hold(*what):
-    """Holds a connection, and opens it again a second after it was ended."""
+    """Holds a connection, and opens it again a second after it has ended."""
     while True:
         with contextlib.suppress(OSError):
             await hold_once(*what)
@@ -201,8 +202,8 @@ async def hold(*what):
 
 
 async def hold_all(ports, opened):
-    """Holds all connections of the crowd, of which a thousand are begun a second."""
-    # A connection that is reset tells so twice.
+    """Holds all connections of the crowd, a thousand of which are opened a second."""
+    # A connection that is reset reports it twice.
     asyncio.get_running_loop().set_exception_handler(lambda *_: None)
     held = []
     for count, name, begin, more in CROWD.values():
@@ -245,7 +246,7 @@ def asked_once(connection, method, path, body):
 
 
 def waits_of(port, seconds, asked, stays):
-    """How long each request takes that is answered, in ms, ascending; and how many aren't."""
+    """How long each answered request takes, in ms, ascending; and how many aren't answered."""
     waits, faults, end = [], 0, time.monotonic() + seconds
     with connected(port) as connection:
         while time.monotonic() < end:

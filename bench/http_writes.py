@@ -3,10 +3,11 @@
 
 usage: http_writes.py [PROGRAM] [--series SERIES ..] [--check]
 
-Each node of `rr node` holds one sample of each of SERIES series (100 and 100,000 if left out), and then takes a sample a
-minute of the first one, for a second in turns with the others, eight times. So the figures say what a write costs more
-where the node holds more. Each is synced before it is answered, so the rate, the median of eight, is that of the disk of
-TMPDIR. With --check it ends with status 1 where the last node takes less than nine tenths of what the first one takes.
+Each node of `rr node` holds one sample of each of SERIES series (100 and 100,000 by default), and then takes a sample a
+minute of the first one, eight times for a second, in turn with the other nodes. So the figures show how much more a
+write costs if the node holds more. Each is synced before it is answered, so the rate, the median of eight, is that of
+the disk of TMPDIR. With --check it ends with status 1 if the last node takes less than nine tenths of what the first
+one takes.
 """
 
 import argparse
@@ -25,7 +26,7 @@ from goals import Goals
 from node_lines import free_port, send
 from store import START, TOP
 
-# How often each node takes its turn, of as many seconds.
+# How many turns each node takes, and the seconds of a turn.
 TURNS, SECONDS = 8, 1
 
 CONFIG = """\
@@ -45,7 +46,7 @@ xff_den = 1
 
 
 def processor_seconds(process):
-    """The processor time of a process until now."""
+    """The processor time of a process so far."""
     fields = pathlib.Path(f"/proc/{process.pid}/stat").read_text().rpartition(")")[2].split()
     return (int(fields[11]) + int(fields[12])) / os.sysconf("SC_CLK_TCK")
 
@@ -60,7 +61,7 @@ class Writes:
         self.rates, self.times = [], []
 
     def write(self):
-        """Has one write answered."""
+        """Makes one write, and waits for its answer."""
         row = next(self.rows)
         self.connection.request("POST", "/write?precision=s", body=f"meter,unit=u0 kwh={row}i {START + row * 60}\n")
         answer = self.connection.getresponse()
@@ -69,7 +70,7 @@ class Writes:
             sys.exit(f"write {row}: status {answer.status}")
 
     def take_turn(self):
-        """Keeps how many writes were answered a second, and the node's processor time of each."""
+        """Keeps how many writes were answered a second, and the node's processor time for each."""
         count, work, began = 0, processor_seconds(self.process), time.perf_counter()
         while time.perf_counter() - began < SECONDS:
             self.write()

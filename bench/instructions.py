@@ -1,15 +1,15 @@
 #!/usr/bin/env python3
-"""Counts the instructions and the allocations of the built program's work, by valgrind.
+"""Counts the instructions and the allocations of the built program's work, with valgrind.
 
 usage: instructions.py [PROGRAM] [--check | --write COMMIT]
 
-Each figure is the difference of two runs, one with 20,000 pieces of the work more than the other, by
-that number: the start of the program isn't in it. Instructions of two runs of one program are the
-same whatever else the machine does, which times are not; they say nothing of caches. Allocations are
-calls of the allocator. Those of a line that a node takes aren't counted.
+Each figure is the difference of two runs, one with more pieces of the work than the other, 20,000 or of a node's lines
+100,000, divided by that number, so the start of the program isn't in it. Two runs of one program take the same
+instructions whatever else the machine does, unlike times; they say nothing about caches. Allocations are calls of the
+allocator. Those of a line that a node takes aren't counted.
 
-With --check, each figure is compared with that of `instructions.txt`, and the status is 1 where one
-is more than a twentieth above it. With --write the figures become that file, as those of a commit.
+With --check, each figure is compared with the one in `instructions.txt`, and the status is 1 if any is more than a
+twentieth above it. With --write the figures are written to that file, as those of COMMIT.
 """
 
 import argparse
@@ -27,13 +27,13 @@ from store import START, TOP, key
 # What the figures are compared with.
 KEPT = TOP / "bench/instructions.txt"
 
-# How much of a figure it may grow by.
+# The fraction by which a figure may grow.
 GROWTH = 0.05
 
 # Samples of one field, each in a new row, of this many series.
 SERIES = 1_000
 
-# Pieces of work in the shorter run, and as many more in the longer one.
+# Pieces of work in the shorter run; the longer one has twice as many.
 PIECES = 20_000
 
 
@@ -61,7 +61,7 @@ def fetches(count):
 
 
 def held(count):
-    """A script of a node that holds so many cells, and another that was loaded from its snapshot."""
+    """A script of a node that holds this many cells, and another that was loaded from its snapshot."""
     yield from writes(count)
     yield "save s a\nload s b 2\n"
 
@@ -79,13 +79,13 @@ def loads(count):
 
 
 def differences(count):
-    """A script that lists the names of this many cells of one node and compares them with another's, of which none is new."""
+    """A script that lists the names of this many cells of a node and compares them with another's, with nothing new."""
     yield from held(PIECES)
     yield "delta p a b 0 256\n" * (count // PIECES)
 
 
 def counted(words, given):
-    """The number that a tool of valgrind prints of a run."""
+    """The number that a valgrind tool prints for a run."""
     tool = ["valgrind", *words]
     with open(given, "rb") as file:
         told = subprocess.run(tool, stdin=file, capture_output=True, check=True).stderr.decode()
@@ -109,7 +109,7 @@ def figures(folder, program, words, work):
 
 
 def works():
-    """Each piece of work: what it is, the words of the program, and its input."""
+    """Each piece of work: what it is, the arguments of the program, and its input."""
     meters = lambda count: (line + "\n" for line in itertools.islice(lines(count, SERIES), count))
     return (
         ("a written line of one field, in a new row", [], writes),
@@ -123,7 +123,7 @@ def works():
 
 
 def measured(program):
-    """The instructions of each piece of work by what it is, and its allocations where they are counted."""
+    """What each piece of work is, with its instructions, and its allocations if they are counted."""
     with tempfile.TemporaryDirectory() as room:
         folder = pathlib.Path(room)
         for what, words, work in works():
@@ -133,13 +133,13 @@ def measured(program):
 
 
 def kept():
-    """The figures that are kept, by what they are of."""
+    """The kept figures, by what they are of."""
     rows = (line.split(": ") for line in KEPT.read_text().splitlines() if line and not line.startswith("#"))
     return {what: [float(it.split()[0].replace(",", "")) for it in told.split(", ")] for what, told in rows}
 
 
 def grown(before, now):
-    """Whether one of these figures, to a tenth as they are kept, is above the kept ones by more than it may be."""
+    """Whether one of these figures, to a tenth, exceeds the kept one by more than it may."""
     return any(round(one, 1) > old * (1 + GROWTH) for old, one in zip(before, now, strict=True))
 
 

@@ -1,10 +1,10 @@
 #!/usr/bin/python3
 """Updates of round-robin files by librrd in process: librrd.py FOLDER SERIES MINUTES ARCHIVES FETCHES
 
-Makes a file for each series in FOLDER, writes the readings minute by minute, each by one call, and fetches the
-last 100 minutes of FETCHES series at random. Prints the seconds and the processor seconds of the updates, those
-of the fetches, and the peak memory of the updates in MB. Runs with the Python of the system, and ends with
-status 1 if that has no `rrdtool`.
+Makes a file for each series in FOLDER, writes the readings minute by minute, each by one call, and fetches the last 100
+minutes of FETCHES randomly chosen series. Prints the seconds and the processor seconds of the updates, those of the
+fetches, and the peak memory of the updates in MB. Runs with the system's Python, and ends with status 1 if that has no
+`rrdtool`.
 """
 
 import random
@@ -32,7 +32,7 @@ def create(file, minutes, archives):
 
 
 def fetch(file, first, minutes):
-    # A row is named by the second that it ends at, which is that of its reading.
+    # A row is named by the second at which it ends, which is that of its reading.
     start, end = str(samples.second(first - 1)), str(samples.second(minutes - 2))
     return rrdtool.fetch(file, "AVERAGE", "--resolution", "60", "--start", start, "--end", end)[2]
 

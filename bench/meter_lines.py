@@ -1,10 +1,10 @@
 #!/usr/bin/env python3
-"""Prints lines of meters, as the line protocol has them, for measurements of speed.
+"""Prints lines of meters in the line protocol, for measurements of speed.
 
 usage: meter_lines.py COUNT [--meters METERS] [--script]
 
-Each of METERS meters (1,000 if left out) takes a reading of three fields in turn, one second
-apart. With --script each line is a `write` of a script, behind a schema and a node.
+Each of METERS meters (1,000 by default) takes a reading of three fields in turn, one second apart. With --script each
+line is a `write` of a script, after a schema and a node.
 """
 
 import argparse

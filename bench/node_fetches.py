@@ -1,11 +1,11 @@
 #!/usr/bin/env python3
-"""Counts the instructions of a fetch from a node over TCP, by valgrind.
+"""Counts the instructions of a fetch from a node over TCP, with valgrind.
 
 usage: node_fetches.py [PROGRAM] [--rows ROWS] [--minutes MINUTES]
 
-The node has a sample in each of MINUTES minutes (1,000 if left out), and answers fetches of ROWS minutes (100 if left
-out) on one connection. The figure is the difference of two runs, one with 100 fetches more, by that number: the start
-of the node and its lines aren't in it.
+The node has a sample in each of MINUTES minutes (1,000 by default), and answers fetches of ROWS minutes (100 by
+default) on one connection. The figure is the difference of two runs, one with 100 more fetches, divided by that number,
+so the start of the node and its lines aren't in it.
 """
 
 import argparse
@@ -26,14 +26,14 @@ KEY = "meter,site=s0,unit=u0 kwh"
 
 
 def requests(count, rows, minutes):
-    """As many fetches, each from another minute on."""
+    """This many fetches, each from another minute on."""
     for number in range(count):
         first = START + number * 37 % (minutes - rows + 1) * 60
         yield f"fetch AVERAGE 60 {first} {first + rows * 60} {KEY}\n"
 
 
 def instructions(folder, program, count, rows, minutes):
-    """The instructions of a node that answers as many fetches."""
+    """The instructions of a node that answers this many fetches."""
     ports = {"lines": free_port(), "fetch": free_port()}
     config = folder / "node.toml"
     config.write_text(CONFIG.format(rows=minutes, **ports))

@@ -3,14 +3,14 @@
 
     bench/node_http.py PROGRAM [--requests N] [--runs N] [--check]
 
-PROGRAM is the built program, crates/rr_tool/out/rr_tool. Each of 16 senders posts N requests, 20 if not given, of 1,000
-lines each, over a connection that stays, and posts again what was answered 503: to a node that does nothing else, and to
-one from which 4 readers fetch 100 rows again and again. Then as many lines are sent over one line connection, and the same
-requests to VictoriaMetrics and InfluxDB, if they are installed. A node of `rr node` syncs what it takes to its journal, in
-the folder of TMPDIR, before it answers; VictoriaMetrics does not. Prints samples a second, the server's processor time for
-each, with that of the fetches, and how many answers were 503, as often as --runs says, each time with new servers. Run it
-on an idle machine. With --check it ends with status 1 where the node takes less than 1.5 times what InfluxDB takes of the
-same requests, in the median of all runs.
+PROGRAM is the built program, crates/rr_tool/out/rr_tool. Each of 16 senders posts N requests (20 by default) of 1,000
+lines each, over a connection that stays open, and posts again what was answered 503: to a node that does nothing else,
+and to one from which 4 readers keep fetching 100 rows. Then as many lines are sent over one line connection, and the
+same requests to VictoriaMetrics and InfluxDB, if they are installed. A node of `rr node` syncs what it takes to its
+journal, in TMPDIR, before it answers; VictoriaMetrics doesn't. Prints samples a second, the server's processor time for
+each, including that of the fetches, and how many answers were 503; all this --runs times, each time with new servers.
+Run it on an idle machine. With --check it ends with status 1 if the node takes less than 1.5 times what InfluxDB takes
+of the same requests, in the median of all runs.
 """
 
 import argparse
@@ -62,12 +62,12 @@ def lines_of(sender, request):
 
 
 def connected(port):
-    """A connection that stays, which is opened at its first request."""
+    """A connection that stays open, and is opened at its first request."""
     return contextlib.closing(http.client.HTTPConnection("127.0.0.1", port, timeout=60))
 
 
 def post(connection, path, body):
-    """How many answers were 503 before one was 204."""
+    """Posts a body until it is answered 204. Returns how many answers were 503 before."""
     for tries in range(1000):
         connection.request("POST", path, body)
         answer = connection.getresponse()
@@ -87,7 +87,7 @@ def send(port, path, bodies):
 
 
 def send_all(port, bodies, path="/write"):
-    """The same for all senders, each beside the others."""
+    """The same for all senders, side by side."""
     with concurrent.futures.ThreadPoolExecutor(SENDERS) as pool:
         return sum(pool.map(lambda own: send(port, path, own), bodies))
 
@@ -108,7 +108,7 @@ def work_of(process):
 
 
 def measured(process, what, samples, run):
-    """What a run gives, and how many samples a second it sent to a process."""
+    """The result of a run, and how many samples a second it sent to a process."""
     work, began = work_of(process), time.monotonic()
     result = run()
     seconds, work = time.monotonic() - began, work_of(process) - work
@@ -117,7 +117,7 @@ def measured(process, what, samples, run):
 
 
 def fetch_until(port, ended, counts):
-    """Fetches 100 rows again and again, and counts the fetches."""
+    """Keeps fetching 100 rows, and counts the fetches."""
     with connected(port) as connection:
         while not ended.is_set():
             connection.request("GET", "/fetch?cf=AVERAGE&resolution=60&start=0&end=6000&key=load,from=0+n")
@@ -125,7 +125,7 @@ def fetch_until(port, ended, counts):
 
 
 def beside_readers(port, run):
-    """What a run gives while readers fetch, and how many fetches they made."""
+    """The result of a run while readers fetch, and how many fetches they made."""
     ended, counts = threading.Event(), []
     readers = [threading.Thread(target=fetch_until, args=(port, ended, counts)) for _ in range(READERS)]
     for reader in readers:
@@ -149,7 +149,7 @@ def await_start(port):
 
 @contextlib.contextmanager
 def node(program):
-    """A node with nothing in it: its process, and its ports of HTTP and of lines."""
+    """An empty node: its process, and its ports for HTTP and for lines."""
     with tempfile.TemporaryDirectory() as folder:
         ports = free_ports(2)
         config = pathlib.Path(folder, "node.toml")
@@ -171,7 +171,7 @@ class Requests:
         self.samples = SENDERS * requests * LINES
 
     def to_node(self, program):
-        """How many samples a second a node takes that does nothing else."""
+        """How many samples a second a node takes if it does nothing else."""
         with node(program) as (process, web, _):
             what = f"{SENDERS} senders over HTTP"
             behind, rate = measured(process, what, self.samples, lambda: send_all(web, self.bodies))

@@ -3,11 +3,10 @@
 
 usage: node_lines.py [PROGRAM] [--series SERIES] [--minutes MINUTES] [--fields 1|3] [--count]
 
-Each of SERIES meters (1,000 if left out) sends a line in each of MINUTES minutes (1,000 if left out). It has one
-field if --fields is left out, and each field is a sample of a series of its own and a new cell. Prints how many
-lines a second are taken, from the first byte that is sent to the report, the best of three nodes, and the peak
-memory. With --count, prints the instructions of a line instead, by valgrind: the difference of two runs, one with
-100,000 lines more.
+Each of SERIES meters (1,000 by default) sends a line in each of MINUTES minutes (1,000 by default). A line has one
+field unless --fields is 3, and each field is a sample of a series of its own and a new cell. Prints how many lines a
+second are taken, from the first byte sent to the report, the best of three nodes, and the peak memory. With --count,
+prints the instructions of a line instead, by valgrind: the difference of two runs, one with 100,000 more lines.
 """
 
 import argparse
@@ -23,7 +22,7 @@ import tomllib
 
 from store import START, TOP
 
-# Lines of the shorter run that is counted; the longer one has twice as many.
+# Lines of the shorter counted run; the longer one has twice as many.
 COUNTED = 100_000
 
 CONFIG = """step = 60
@@ -45,7 +44,7 @@ FIELDS = {1: ("kwh",), 3: ("kwh", "volt", "watt")}
 
 
 def lines(series, minutes, fields=1):
-    """Lines of so many fields and two tags, minute by minute."""
+    """Lines of this many fields and two tags, minute by minute."""
     for minute in range(minutes):
         for one in range(series):
             names = f"meter,site=s{one // 10},unit=u{one % 10}"
@@ -77,7 +76,7 @@ def connected(port):
 
 
 def send(port, text):
-    """Sends a text on one connection, and gives the report and the seconds up to it."""
+    """Sends a text on one connection, and returns the report and the seconds up to it."""
     with connected(port) as stream:
         before = time.perf_counter()
         stream.sendall(text)
@@ -93,7 +92,7 @@ def peak(process):
 
 
 def taken(folder, words, text, minutes):
-    """Has a node take a text; its seconds, its peak memory, and what it told on standard error."""
+    """Has a node take a text; returns the seconds, the peak memory, and what it said on standard error."""
     ports = {"lines": free_port(), "fetch": free_port()}
     config = folder / "node.toml"
     config.write_text(CONFIG.format(rows=minutes, **ports))

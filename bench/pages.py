@@ -1,12 +1,11 @@
 #!/usr/bin/env python3
-"""Times pages through the built program: made of a replica's cells, and delivered to another.
+"""Times pages through the built program: made from a replica's cells, and delivered to another.
 
 usage: pages.py [--series SERIES] [--minutes MINUTES]
 
-Each of SERIES meters (1,000 if left out) takes a reading in each of MINUTES minutes (1,000 if left
-out), which is a cell each. Then all cells are put into pages of 256, kept side by side, and then all
-pages are delivered to an empty node. Prints how many pages and cells there are a second, and how
-much memory a page takes.
+Each of SERIES meters (1,000 by default) takes a reading in each of MINUTES minutes (1,000 by default), each of which is
+a cell. Then all cells are put into pages of 256, kept side by side, and then all pages are delivered to an empty node.
+Prints pages and cells a second, and how much memory a page takes.
 """
 
 import argparse
@@ -21,7 +20,7 @@ CELLS = 256
 
 
 def pages(cells):
-    """The names of the pages, and the place of the first cell of each."""
+    """The name of each page, and the index of its first cell."""
     return [(f"p{first // CELLS}", first) for first in range(0, cells, CELLS)]
 
 

@@ -3,13 +3,13 @@
 
 usage: peers.py [--series SERIES] [--minutes MINUTES] [--runs RUNS] [--program PROGRAM]
 
-Each of SERIES meters (1,000 if left out) has a reading in each of MINUTES minutes (1,000 if left out). Each
-server takes all of them minute by minute, over one connection, and then answers 5,000 fetches of 100 rows of
-series at random, one after the other over one connection; the values are compared with what was sent. `rr serve`
-is asked over TCP and `rr node` over HTTP, as VictoriaMetrics and InfluxDB are; it and InfluxDB have each request in a
-synced journal before they answer it. `librrd` is no server: it is called in process. Prints, of the best of RUNS runs (3 if left out), samples and fetches a
-second, and the server's processor time for each; and of the last run the peak memory and the bytes on disk. What
-isn't installed is left out.
+Each of SERIES meters (1,000 by default) has a reading in each of MINUTES minutes (1,000 by default). Each server takes
+all of them minute by minute, over one connection, and then answers 5,000 fetches of 100 rows of randomly chosen series,
+one after another over one connection; the values are compared with what was sent. `rr serve` is asked over TCP, and
+`rr node` over HTTP, as VictoriaMetrics and InfluxDB are; `rr node` and InfluxDB have each request in a synced journal
+before they answer it. `librrd` isn't a server: it is called in process. Prints, each from the best of RUNS runs (3
+by default), samples and fetches a second, and the server's processor time for each; and of the last run the peak memory
+and the bytes on disk. What isn't installed is left out.
 """
 
 import argparse
@@ -51,7 +51,7 @@ class Work:
         self.chosen = random.Random(7).choices(range(series), k=FETCHES)
 
     def pieces(self, text):
-        """The samples in order of time, in pieces, each as `text` of a meter and a minute."""
+        """The samples in order of time, in pieces, each sample as `text` of its meter and minute."""
         samples = (text(one, minute) for minute in range(self.minutes) for one in range(self.series))
         while piece := "".join(itertools.islice(samples, PIECE)):
             yield piece.encode()
@@ -73,7 +73,7 @@ def peak_memory(pid):
 
 
 def connected(address, family=socket.AF_INET):
-    """A stream to a server, which may be about to start."""
+    """A stream to a server, which may still be starting."""
     for _ in range(300):
         stream = socket.socket(family)
         try:
@@ -92,7 +92,7 @@ class Server:
         self.work = work
 
     def settle(self):
-        """Waits for what is still to be done when all samples are taken."""
+        """Waits for what is left to do once all samples are taken."""
 
 
 class Rr(Server):
@@ -124,7 +124,7 @@ class Rr(Server):
             raise SystemExit(f"rr serve: {report[-200:]}")
 
     def settle(self):
-        """The snapshot is saved after the report."""
+        """Waits for the snapshot, which is saved after the report."""
         while not self.snapshot.exists():
             time.sleep(0.1)
 
@@ -158,7 +158,7 @@ class Http(Server):
 
 
 class RrNode(Http):
-    """`rr node`, whose directory is on the disk that the others have theirs on."""
+    """`rr node`, with its directory on the same disk as the others'."""
 
     name, needs, port = "rr node", None, 17_003
 
@@ -260,7 +260,7 @@ def update(one, minute):
 
 
 class Rrdcached(Server):
-    """A file a series, and updates in batches over a socket; they are written in time, or at a fetch."""
+    """A file for each series, and updates in batches over a socket; they are written later, or at a fetch."""
 
     name, needs = "rrdcached", "rrdcached"
 
@@ -298,7 +298,7 @@ class Rrdcached(Server):
                 raise SystemExit(f"rrdcached: {faults[0]}")
 
     def fetch(self, one):
-        # A row is named by the second that it ends at, which is that of its sample.
+        # A row is named by the second at which it ends, which is that of its sample.
         return self.ask(f"FETCH {one}.rrd AVERAGE {self.work.first - 60} {self.work.end - 120}\n".encode())
 
     def values(self, answer):
@@ -317,14 +317,14 @@ def running(words, log):
 
 
 def timed(pid, act):
-    """The seconds that something takes, and the processor seconds of a process for it; and its answer."""
+    """The seconds that an act takes, and the processor seconds of a process for it; and its answer."""
     used, began = processor_time(pid), time.perf_counter()
     answer = act()
     return (time.perf_counter() - began, processor_time(pid) - used), answer
 
 
 def served(kind, folder, work, program):
-    """Seconds to take the samples and to fetch, the server's seconds for each, its memory, and the disk's."""
+    """Seconds to take the samples and to fetch, each with the server's seconds; its peak memory and size on disk."""
     server = kind(folder, work, program)
     with open(folder / "log", "wb") as log, running(server.words, log) as process:
         server.begin()
@@ -344,7 +344,7 @@ def on_disk(folder):
 
 
 def called(folder, work):
-    """The same of librrd, which is called in process."""
+    """The same for librrd, which is called in process."""
     script = TOP / "bench/librrd.py"
     words = [script, folder, str(work.series), str(work.minutes), "1", str(FETCHES)]
     run = subprocess.run(words, stdout=subprocess.PIPE)
@@ -354,7 +354,7 @@ def called(folder, work):
 
 
 def best(measure, runs):
-    """The least seconds of some runs, and the memory and the disk of the last."""
+    """The least seconds of some runs, and the memory and the size on disk of the last."""
     all_runs = []
     for _ in range(runs):
         with tempfile.TemporaryDirectory() as room:

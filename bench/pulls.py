@@ -1,13 +1,12 @@
 #!/usr/bin/env python3
-"""Times pulls over TCP: an empty node pulls from a full one, and then again, where nothing is new.
+"""Times pulls over TCP: an empty node pulls from a full one, and then again, with nothing new.
 
 usage: pulls.py [PROGRAM] [--series SERIES] [--minutes MINUTES]
 
-Each of SERIES series (1,000 if left out) has a cell in each of MINUTES minutes (1,000 if left out). Both nodes
-run side by side, and a relay between them counts the bytes. Meanwhile lines are sent to the full one,
-1,000 on a connection, one connection after the other. Prints for both pulls how long they take, the processor
-time of either side, the bytes each way, and how long the lines waited for their report; and at the end the peak
-memory of either side.
+Each of SERIES series (1,000 by default) has a cell in each of MINUTES minutes (1,000 by default). Both nodes run side
+by side, and a relay between them counts the bytes. Meanwhile lines are sent to the full one, 1,000 on a connection, one
+connection after another. Prints for each pull how long it takes, the processor time of either side, the bytes each way,
+and how long the lines waited for their report; and at the end the peak memory of either side.
 """
 
 import argparse
@@ -59,7 +58,7 @@ class Node:
 
 
 class Relay:
-    """Passes each connection on to a port, and counts the bytes of either way."""
+    """Passes each connection on to a port, and counts the bytes each way."""
 
     def __init__(self, port):
         self.to = port
@@ -90,7 +89,7 @@ class Relay:
 
 
 class Sender(threading.Thread):
-    """Sends lines to a node, a connection after the other, until it is told to end."""
+    """Sends lines to a node, one connection after another, until it is told to end."""
 
     def __init__(self, port, minute):
         super().__init__()
@@ -109,7 +108,7 @@ class Sender(threading.Thread):
 
 
 def pulled(name, giver, puller, relay, minute):
-    """Times a pull, which follows the empty line connection: the next one is taken once it has ended."""
+    """Times a pull, which follows the empty line connection: the next one is taken once the pull has ended."""
     send(puller.lines, b"")
     beside = Sender(giver.lines, minute)
     beside.start()

@@ -1,14 +1,14 @@
 #!/usr/bin/env python3
-"""Measures what a put costs with more and more series and archives, and the memory of cells and series.
+"""Measures what a put costs as series and archives grow in number, and the memory of cells and series.
 
 usage: puts.py [--program PROGRAM] [--beside COMMAND] [--most SERIES]
 
-A put is a written line of a script, one field in a new row. A figure is the difference of two runs, of which
-the longer one writes twice as many minutes, by the puts more: neither the start nor new series are in it.
-Prints instructions by callgrind, and the least processor time of four runs, for 1,000 series, ten times as
-many and so on up to SERIES (1,000,000 if left out), each with one archive and with eight. COMMAND reads the same
-script on standard input, with one archive: a prototype to compare with. `librrd` is called in process, if it is
-installed, with a file a series, for up to 100,000 of them.
+A put is a written line of a script, one field in a new row. A figure is the difference of two runs, the longer of which
+writes twice as many minutes, divided by the puts that it has more, so neither the start nor new series are in it.
+Prints instructions by callgrind, and the least processor time of four runs, for 1,000 series, ten times as many and so
+on up to SERIES (1,000,000 by default), each with one archive and with eight. COMMAND reads the same script on standard
+input, with one archive: a prototype to compare with. `librrd` is called in process, if it is installed, with a file for
+each series, for up to 100,000 of them.
 """
 
 import argparse
@@ -22,17 +22,17 @@ from instructions import counted
 from samples import STEPS, line, second
 from store import TOP
 
-# Puts of the shorter run, if the series are not more: counted, and timed.
+# Puts of the shorter run, unless there are more series: counted, and timed.
 COUNTED = 20_000
 TIMED = 500_000
 TIMED_RUNS = 4
 
-# Files of librrd that are made at most.
+# The most files that are made for librrd.
 MOST_FILES = 100_000
 
-# Series and rows of the run that tells how large a cell is; and of those which tell how large a series is. The
-# first of the latter has few rows, as many as a list has room for at first; the second has the minutes of a day,
-# of which one is written.
+# Series and rows of the run that tells how large a cell is, and of those that tell how large a series is. The first of
+# the latter has few rows, as many as a list has room for at first; the second has the minutes of a day, one of which is
+# written.
 CELL_SERIES = 1_000
 CELL_ROWS = 1_000
 MANY_SERIES = 1_000_000
@@ -42,7 +42,7 @@ DAY_ROWS = 1_440
 
 
 def write_script(file, archives, rows, lines):
-    """A script of one node, with so many archives that each keep this many rows of the first."""
+    """Writes a script of one node, with this many archives that each keep the time of this many rows of the first."""
     schema = " ".join(f"{steps}:{-(-rows // steps)}:0/1" for steps in STEPS[:archives])
     with open(file, "w") as script:
         script.write(f"schema 60 {schema}\nnode a 1\n")
@@ -50,7 +50,7 @@ def write_script(file, archives, rows, lines):
 
 
 def puts(series, minutes):
-    """The lines, minute by minute, of meters that don't come in the order of their keys."""
+    """Lines, minute by minute, of meters that don't come in the order of their keys."""
     for minute in range(minutes):
         for number in range(series):
             yield line(number * 7_919 % series, minute)
@@ -67,7 +67,7 @@ def used(words, script):
 
 
 def put_cost(folder, series, archives, least, cost, runs):
-    """What `cost` of a script tells of a put, by the least of some runs; long and short ones take turns."""
+    """What `cost` of a script tells about a put, by the least of some runs; long and short ones take turns."""
     minutes = max(1, least // series)
     scripts = []
     for count in (minutes, 2 * minutes):
@@ -94,7 +94,7 @@ def figures(folder, words, series, archives):
 
 
 def print_updates(series, archives):
-    """Nanoseconds of processor time of an update by librrd."""
+    """Prints the nanoseconds of processor time of an update by librrd."""
     minutes = max(2, 100_000 // series)
     with tempfile.TemporaryDirectory() as room:
         words = [TOP / "bench/librrd.py", room, str(series), str(minutes), str(archives), "0"]
@@ -116,7 +116,7 @@ def memory(folder, program, rows, lines):
 
 
 def cell_bytes(folder, program):
-    """A cell of a ring that is full: as many lines in rows of their own, and all in one row."""
+    """The bytes of a cell of a full ring: those of lines in rows of their own less those of as many in one row."""
     minutes, meters = range(CELL_ROWS), range(CELL_SERIES)
     own = (narrow(one, f"{second(minute)}000000000") for minute in minutes for one in meters)
     same = (narrow(one, f"{second(0)}{minute:09}") for minute in minutes for one in meters)
@@ -125,7 +125,7 @@ def cell_bytes(folder, program):
 
 
 def series_bytes(folder, program, rows, series):
-    """A series of so many rows, of which one is written: as many lines of meters of their own, and of few meters."""
+    """The bytes of a series of this many rows, one of them written: lines of a meter each less as many of few."""
     time = f"{second(0)}000000000"
     own = (narrow(one, time) for one in range(series))
     same = (narrow(one % CELL_SERIES, time) for one in range(series))

@@ -3,16 +3,16 @@
 
 usage: replication.py [PROGRAM] [--cells CELLS] [--seconds SECONDS] [--check]
 
-A node takes CELLS samples (4,000,000 if left out), a new cell each, of 4,000 series. Then these are printed:
+A node takes CELLS samples (4,000,000 by default) of 4,000 series, each a new cell. Then these are printed:
 
-- how long a new node took to hold all of these, from its start on, the memory of it at most, and the bytes that went
-  between them;
-- with nothing new, for SECONDS (60 if left out): the processor time of both, and the bytes between them, a minute;
+- how long a new node took from its start to hold all of these, its peak memory, and the bytes that went between the
+  two;
+- with nothing new, for SECONDS (60 by default): the processor time of both, and the bytes between them, a minute;
 - for a body of 1,000 new samples, one of each of 1,000 series, the median of 20: how long it took from the first node's
   204 until the other one answered with the last of them, and the bytes between them.
 
-TMPDIR names the folder that has the nodes' directories. Status 1: a node answers otherwise than expected; with --check also
-where nothing new takes more than 0.05 s of a node's processor time or 10 KB a minute, or 1,000 samples more than 1.5 s or
+The nodes' directories are made in TMPDIR. Status 1: a node answers otherwise than expected; with --check also if
+nothing new takes more than 0.05 s of a node's processor time or 10 KB a minute, or 1,000 samples more than 1.5 s or
 100 KB.
 """
 
@@ -32,7 +32,7 @@ from store import START, TOP
 
 
 class Between:
-    """Passes on what comes at a port, and counts it."""
+    """Passes on what arrives at a port, and counts its bytes."""
 
     def __init__(self, target):
         self.target, self.bytes = target, 0
@@ -82,7 +82,7 @@ def ask(node, target):
 
 
 def answered(node, series, minute):
-    """Whether the node answers with a value for the minute of a series."""
+    """Whether the node answers with a value of a series for this minute."""
     start = START + minute * 60
     target = f"/fetch?cf=LAST&resolution=60&start={start}&end={start + 60}&key=meter%2Cunit%3Du{series}%20kwh"
     text = ask(node, target)
@@ -90,7 +90,7 @@ def answered(node, series, minute):
 
 
 def lag(node):
-    """How many bytes of its peer's journal a node says that it hasn't read."""
+    """How many bytes of its peer's journal a node says it hasn't read."""
     for line in ask(node, "/metrics").decode().splitlines():
         if line.startswith("rr_peer_lag_bytes{"):
             return int(line.split()[1])
@@ -98,7 +98,7 @@ def lag(node):
 
 
 def new_samples(first, second, between, minute):
-    """The seconds until a body's last sample is answered by the other node, and the bytes between them."""
+    """The seconds until the other node answers with a body's last sample, and the bytes between them."""
     text = next(bodies(1_000, minute, 1))
     before = between.bytes
     first.connection.close()

@@ -3,11 +3,12 @@
 
 usage: rounds.py [PROGRAM] [--series SERIES] [--between SECONDS] [--times TIMES] [--times-without TIMES]
 
-A node of `rr serve` with the archives of examples/rr.toml begins with SERIES series (50 if left out) that have a
-sample in each step of a year, from a snapshot that this script makes. Ten senders send a line for each of their series
-every SECONDS seconds (10 if left out), each over a connection of its own: TIMES times (7) to a node with `every = 60`,
-which saves twice meanwhile, and 2 times to one without `every`, which saves after each connection. Prints the median
-and the greatest wait, from the call to the end of the report. It takes less than two minutes.
+A node of `rr serve` with the archives of examples/rr.toml begins with SERIES series (50 by default) that have a sample
+in each step of a year, from a snapshot that this script makes. Ten senders send a line for each of their series every
+SECONDS seconds (10 by default), each over a connection of its own: TIMES times (7 by default) to a node with
+`every = 60`, which saves twice meanwhile, and 2 times by default to one without `every`, which saves after each
+connection. Prints the median and the greatest wait, from the call to the end of the report. It takes less than two
+minutes.
 """
 
 import argparse
@@ -53,7 +54,7 @@ def cells_of(key, step, archives, now):
         newest = now // span
         mask = ((1 << steps) - 1).to_bytes(MASK_LEN[VERSION], "big")
         for slot in range(newest - rows + 1, newest + 1):
-            # The number of its last sample, counted from the first step that any archive has.
+            # The number of its last sample: its steps since 8,760 hours ago, and 10,000 more.
             number_then = (slot * steps + steps) - (now // step - 8_760 * 60) + 10_000
             last = (slot * span + span - 1) * SECOND
             yield head + FIELDS.pack(
@@ -77,14 +78,14 @@ def snapshot(schema, series, now):
 
 
 def config(every):
-    """The text of a configuration with free ports, and that port for lines."""
+    """The text of a configuration with free ports, and its port for lines."""
     lines = free_port()
     every = f"every = {every}" if every else ""
     return plant_config(CONFIG.format(lines=lines, fetch=free_port(), every=every)), lines
 
 
 def report_of(port, series):
-    """Sends a line for each of these series, and gives the seconds up to the end of the report."""
+    """Sends a line for each of these series, and returns the seconds up to the end of the report."""
     began = time.perf_counter()
     now = time.time_ns()
     report, _ = send(port, "".join(f"{name(one)} temp={VALUE}i {now}\n" for one in series).encode())
@@ -94,7 +95,7 @@ def report_of(port, series):
 
 
 def waits_of(port, series, between, times):
-    """How long each of the senders waits, each time."""
+    """How long each sender waits, each time."""
     waits = []
     began = time.perf_counter()
 
@@ -121,7 +122,7 @@ def measure(folder, program, every, series, between, times):
     words = [program, "serve", file, "--origin", "2", "--load", folder / "full", "--save", folder / "saved"]
     node = subprocess.Popen(words, stderr=subprocess.DEVNULL)
     try:
-        # Nothing is brought, so that the node saves once before it is measured.
+        # This connection sends nothing, so that the node saves once before it is measured.
         with connected(port):
             pass
         waits = waits_of(port, series, between, times)

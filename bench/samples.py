@@ -1,8 +1,8 @@
-"""Samples of one field of many meters, a minute apart, as the measurements beside other stores take them."""
+"""Samples of one field of many meters, a minute apart, for the measurements beside other stores."""
 
 from store import START
 
-# Steps of the rows of archives, as many as are asked for.
+# The steps of a row in each archive, for as many archives as are asked for.
 STEPS = [1, 2, 4, 8, 16, 32, 48, 64]
 
 

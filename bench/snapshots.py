@@ -3,10 +3,10 @@
 
 usage: snapshots.py [--series SERIES] [--minutes MINUTES]
 
-Each of SERIES meters (1,000 if left out) takes a reading in each of MINUTES minutes (1,000 if left
-out), which is a cell each. Then the node is saved, and then loaded as another node. A script keeps
-the bytes of a snapshot in memory. Prints how many cells there are a second, how much memory each
-step takes beside what the one before it left, and how long `sha256sum` takes for as many bytes.
+Each of SERIES meters (1,000 by default) takes a reading in each of MINUTES minutes (1,000 by default), each of which is
+a cell. Then the node is saved, and then loaded as another node. A script keeps the bytes of a snapshot in memory.
+Prints cells a second, how much memory each step takes on top of what the one before it left, and how long `sha256sum`
+takes for as many bytes.
 """
 
 import argparse
@@ -27,7 +27,7 @@ def length(series, minutes):
 
 
 def digesting(folder, size):
-    """The best time of a digest of as many bytes."""
+    """The best time of a digest of this many bytes."""
     with open(folder / "bytes", "wb") as file:
         file.truncate(size)
     return best(["sha256sum"], folder / "bytes", folder / "nothing")[0]

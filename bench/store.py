@@ -1,11 +1,10 @@
 #!/usr/bin/env python3
-"""Times writes and fetches through the built program, and through rrdtool where that is installed.
+"""Times writes and fetches through the built program, and through rrdtool if that is installed.
 
 usage: store.py [--series SERIES] [--minutes MINUTES]
 
-Each of SERIES meters (1,000 if left out) takes a reading in each of MINUTES minutes (1,000 if left
-out); then each is fetched whole, a row a minute. Prints how many writes and rows there are a
-second, and the peak memory.
+Each of SERIES meters (1,000 by default) takes a reading in each of MINUTES minutes (1,000 by default); then each is
+fetched whole, a row for each minute. Prints writes and rows a second, and the peak memory.
 """
 
 import argparse
@@ -44,7 +43,7 @@ def fetches(series, minutes):
 
 
 def run(words, script, output):
-    """Runs a program on a script; the seconds that it took, and its peak memory in MB."""
+    """Runs a program on a script; returns the seconds that it took, and its peak memory in MB."""
     with open(script, "rb") as given, open(output, "wb") as told:
         before = time.perf_counter()
         child = subprocess.Popen(words, stdin=given, stdout=told)
@@ -69,7 +68,7 @@ def report(name, took_writing, took_both, memory, words):
 
 
 def store(folder, words):
-    """The program: a script that writes, and the same with the fetches behind it."""
+    """Times the program: on a script that writes, and on the same with the fetches after it."""
     program = str(TOP / "rr")
     subprocess.run([program], stdin=subprocess.DEVNULL, check=True)
     writing, both = folder / "writing.rr", folder / "both.rr"
@@ -87,7 +86,7 @@ def store(folder, words):
 
 
 def rrdtool(folder, words):
-    """The same work by rrdtool, a file a series, through one process that reads commands."""
+    """The same work by rrdtool, a file for each series, through one process that reads commands."""
     files = [folder / f"M{one:06}.rrd" for one in range(words.series)]
     with open(folder / "create", "w") as script:
         for file in files:

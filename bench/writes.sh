@@ -1,5 +1,5 @@
 #!/bin/sh
-# Times a script of whole lines, each of three fields, through the built program: bench/writes.sh [LINES]
+# Times the built program on a script of whole lines of three fields: bench/writes.sh [LINES]
 set -eu
 top=$(cd "$(dirname "$0")/.." && pwd)
 lines=${1:-300000}

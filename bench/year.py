@@ -1,14 +1,14 @@
 #!/usr/bin/env python3
-"""Measures what series take in a node that has a sample of them in each minute of a year.
+"""Measures what series take in a node that has a sample of each in every minute of a year.
 
 usage: year.py [PROGRAM] [--series SERIES] [--kinds KIND ..]
 
-Makes a snapshot of SERIES series (50 if left out) with the archives of examples/rr.toml, all 12,216 rows of each full,
+Makes a snapshot of SERIES series (50 by default) with the archives of examples/rr.toml, all 12,216 rows of each full,
 loads it into a node of `rr serve`, fetches a row of the first and of the last series, and prints the seconds of
-processor time that the load took, the memory at most and once it serves, and what that is for each series, less that of
-a node without any. KIND is `meter`, whose value is always the same, `noise`, a temperature that varies, or `octets`, a
-counter that grows unevenly; all three if left out. Ten thousand series take 15 GB of disk for the snapshot, in the
-folder of TMPDIR.
+processor time that loading took, the memory at most and while it serves, and what the latter is for each series, less
+that of a node without any. KIND is `meter`, whose value is always the same, `noise`, a temperature that varies, or
+`octets`, a counter that grows unevenly; all three by default. The snapshot of ten thousand series takes 15 GB of disk,
+in TMPDIR.
 """
 
 import argparse
@@ -37,7 +37,7 @@ VERSION = 2
 SECOND = 1_000_000_000
 KINDS = ("meter", "noise", "octets")
 
-# Of so many series the values differ; others repeat them.
+# The values of this many series differ; the others repeat them.
 PATTERNS = 4
 
 
@@ -122,7 +122,7 @@ def fetched(port, one, now):
 
 
 def measure(program, folder, kind, series, now):
-    """The MB at most and while it serves, and the seconds that loading took."""
+    """The MB at most and while it serves, and the processor seconds that loading took."""
     fetch = free_port()
     text = plant_config(CONFIG.format(lines=free_port(), fetch=fetch))
     (folder / "node.toml").write_text(text)

@@ -1,14 +1,14 @@
 #!/usr/bin/env python3
-"""Nodes with directories that are started again with one archive more.
+"""Nodes with directories that are restarted with one more archive.
 
 usage: add_archive.py PROGRAM [KILLS] [SEED]
 
-A node of rows of a minute takes rows of 500 series, and another one follows it. Both are killed. An archive of rows of
-five minutes is added to the configuration of the first, which is killed with SIGKILL at random moments while it starts,
-from a copy of its directory each time; then it starts for good: the minutes are there, the new archive has no row, and
-takes what comes from then on. The other one is refused as SchemaDiffers until it has the archive too, and then answers as
-the first. Without the archive neither starts, and says why. KILLS is 30 and SEED 1, if missing. Ends with status 1 where
-something else comes.
+A node with one-minute rows takes rows of 500 series, and another one follows it. Both are killed. An archive with five-
+minute rows is added to the configuration of the first, which is killed with SIGKILL at random moments while it starts,
+each time from a copy of its directory; then it starts for good: the minutes are there, and the new archive has no row,
+but takes what comes from then on. The other one is refused as SchemaDiffers until it has the archive too, and then
+answers as the first does. Without the archive the first no longer starts, and says why. KILLS is 30 and SEED 1 by
+default. Ends with status 1 if anything else happens.
 """
 
 import http.client
@@ -33,7 +33,7 @@ PEER = 'peers = ["127.0.0.1:{0}"]\n'
 MINUTES = "[[archive]]\nsteps = 1\nrows = 2000\nxff_num = 0\nxff_den = 1\n"
 FIVE = "[[archive]]\nsteps = 5\nrows = 400\nxff_num = 0\nxff_den = 1\n"
 
-# The second of the first row, the series, and how many rows each has at first and gets after the archive came.
+# The second of the first row, the number of series, and how many rows each has at first and gets with the new archive.
 BEGIN, SERIES, ROWS, MORE = 1_700_000_100, 500, 400, 10
 
 
@@ -84,7 +84,7 @@ class Node:
                 fail("a write isn't taken")
 
     def values(self, series, resolution, first, count):
-        """The values of rows of a series, each of so many seconds, from a second on."""
+        """The values of this many rows of a series, at a resolution in seconds, from a second on."""
         end = first + count * resolution
         query = f"cf=LAST&resolution={resolution}&start={first}&end={end}&key=m,n={series}+v"
         status, text = self.ask("GET", f"/fetch?{query}")
@@ -105,7 +105,7 @@ def names_in(folder):
 
 
 def moment_of(old, now):
-    """Where in an upgrade a node was killed, by the files that it left."""
+    """Where in an upgrade a node was killed, judging by the files that it left."""
     new = now - old
     if not new:
         return "before"
@@ -125,8 +125,8 @@ def seconds_of_start(node, kept):
 
 
 def killed_starts(node, kills, draw, kept):
-    """Kills the node while it starts with the archive, each time from a copy of its directory; how often
-    at which moment."""
+    """Kills the node while it starts with the archive, each time from a copy of its directory. Returns how often it was
+    killed at which moment."""
     seen = {"before": 0, "within": 0, "after": 0}
     took = seconds_of_start(node, kept)
     for _ in range(kills):
@@ -197,7 +197,7 @@ def main():
 
 
 def await_alike(node, count):
-    """Waits until a node has so many rows of each series, for a minute at most."""
+    """Waits until a node has this many rows of each series, for a minute at most."""
     until = time.monotonic() + 60
     while all_minutes(node, count) != minutes(range(count)):
         if time.monotonic() > until:

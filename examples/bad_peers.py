@@ -3,9 +3,9 @@
 
 usage: bad_peers.py PROGRAM
 
-PROGRAM is the built program, crates/rr_tool/out/rr_tool. The node has to say of each what is wrong, by the names of
-docs/FORMATS.md, and meanwhile to take lines, answer fetches, and have what the good peer has. Ends with status 1 where
-something else comes.
+PROGRAM is the built program, crates/rr_tool/out/rr_tool. The node has to say what is wrong with each, by the names of
+docs/FORMATS.md, and meanwhile has to take lines, answer fetches, and have what the good peer has. Ends with status 1 if
+anything else happens.
 """
 
 import pathlib
@@ -49,7 +49,7 @@ def garbage(stream):
 
 
 def endless(stream):
-    """An answer without an end."""
+    """Sends an answer without an end."""
     stream.recv(65536)
     stream.sendall(b"HTTP/1.1 200 OK\r\ntransfer-encoding: chunked\r\n\r\n")
     while True:
@@ -57,7 +57,7 @@ def endless(stream):
 
 
 def lying(stream):
-    """Greets as a node does, and gives bytes that are no records."""
+    """Greets as a node does, and sends bytes that aren't records."""
     while request := stream.recv(65536):
         if b"from=" not in request:
             stream.sendall(GREETING)
@@ -73,7 +73,7 @@ def gone(stream):
 
 
 def serve(how):
-    """The port at which each connection is served so."""
+    """The port at which each connection is served this way."""
     listener = socket.create_server(("127.0.0.1", 0))
 
     def one(stream):
@@ -110,7 +110,7 @@ class Node:
         fail(f"{name} doesn't listen")
 
     def curl(self, path, body=None):
-        """What curl is answered, and the seconds until then."""
+        """The answer that curl gets, and the seconds until then."""
         words = ["curl", "-sS", "-g", "--max-time", "10", f"http://127.0.0.1:{self.port}{path}"]
         began = time.monotonic()
         run = subprocess.run(words + (["--data-binary", "@-"] if body else []), input=body, capture_output=True, check=False)
@@ -131,7 +131,7 @@ def run(program, folder, nodes):
     good = Node(program, folder, "good", ports[0], 1)
     nodes.append(good)
     nodes.append(Node(program, folder, "other", ports[1], 11, rows=3000))
-    # This one writes under the origins of the node that is looked at, as a copied directory would.
+    # This one writes under the origins of the node under test, as a copied directory would.
     twin = Node(program, folder, "twin", ports[2], 101)
     nodes.append(twin)
     for minute in range(3):
@@ -158,7 +158,7 @@ def run(program, folder, nodes):
         fail("that is too long")
     wanted = {f"peer {number}: {name}" for number, name in enumerate(
         ["BadAddress", "ReadFailed", "BadAnswer", "BadAnswer", "Damaged", "Gone", "SchemaDiffers", "own origin"], 1)}
-    # Behind a part that is none, the one that lies is asked for its checkpoint.
+    # After a part of its journal that isn't one, the peer that lies is asked for its checkpoint.
     wanted.add("peer 5: BadAnswer")
     check("what is told of the peers", sorted(node.told()), sorted(wanted))
     check("what the peer of another schema tells", nodes[1].told(),

@@ -1,13 +1,13 @@
 #!/usr/bin/env python3
-"""Kills a node at random moments while it writes checkpoints, and sees that it starts again with all it acknowledged.
+"""Kills a node at random moments while it writes checkpoints, and checks that it restarts with all it acknowledged.
 
 usage: checkpoint_crash.py PROGRAM [KILLS] [SEED]
 
-Two senders write bodies of a sample to each of 2,000 series, row by row, as fast as they are answered, so that a
-checkpoint is begun every few seconds. The node is killed with SIGKILL at a random moment and started again from its
-directory, and some series of each sender are asked for all rows since the kill before: one that was acknowledged has its
-value, one that wasn't has it or none. KILLS is 12 and SEED 1, if missing. Status 1: a row is lost, the node doesn't
-start, or no checkpoint was finished.
+Two senders write bodies with a sample for each of 2,000 series, row by row, as fast as they are answered, so a
+checkpoint is begun every few seconds. The node is killed with SIGKILL at a random moment and restarted from its
+directory, and some series of each sender are asked for all rows since the previous kill: a row that was acknowledged
+has its value, one that wasn't has it or none. KILLS is 12 and SEED 1 by default. Status 1: a row is lost, the node
+doesn't start, or no checkpoint was finished.
 """
 
 import http.client
@@ -34,10 +34,10 @@ xff_num = 0
 xff_den = 1
 """
 
-# The second of the first row, and the series of a sender.
+# The second of the first row, and the number of a sender's series.
 BEGIN, SERIES = 1_700_000_000, 2_000
 
-# Series of a sender that are asked for after a kill.
+# How many series of a sender are asked for after a kill.
 ASKED = 5
 
 
@@ -46,7 +46,7 @@ def value(series, row):
 
 
 class Sender:
-    """Writes rows, one after the other, and knows up to which one they are acknowledged."""
+    """Writes rows one after another, and knows up to which one they are acknowledged."""
 
     def __init__(self, name, port):
         self.name, self.port = name, port
@@ -71,7 +71,7 @@ class Sender:
             self.acknowledged = row + 1
 
     def lost(self, draw):
-        """How many rows are lost of some series, of those that were acknowledged since the last look."""
+        """How many rows of some series are lost, of those acknowledged since the last check."""
         lost = 0
         for series in draw.sample(range(SERIES), ASKED):
             first, end = BEGIN + self.checked, BEGIN + self.acknowledged
@@ -90,7 +90,7 @@ class Sender:
 
 
 def started(words, port):
-    """A node that answers."""
+    """Starts a node, and returns it once it answers."""
     process = subprocess.Popen(words)
     while True:
         try:
@@ -105,7 +105,7 @@ def started(words, port):
 
 
 def killed(process, senders, draw, data, seen):
-    """Has senders write until the node is killed, and notes the checkpoints that are seen meanwhile."""
+    """Has senders write until the node is killed, and notes the checkpoints seen meanwhile."""
     stopped = threading.Event()
     threads = [threading.Thread(target=sender.send, args=(stopped,)) for sender in senders]
     for thread in threads:

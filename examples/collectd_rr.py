@@ -1,6 +1,6 @@
-"""Sends what collectd reads to a node: a write plugin for the Python plugin of collectd.
+"""Sends what collectd reads to a node: a write plugin for collectd's Python plugin.
 
-What counts up, as the bytes of an interface do, is sent as a rate a second, unless `StoreRates` is false. A node takes
+Counters, such as the bytes of an interface, are sent as rates per second, unless `StoreRates` is false. A node takes
 whole numbers, so each value is multiplied by `Scale` and rounded. Readings are collected for `Every` seconds and sent
 over one connection, which is then closed. If the node can't be reached, up to a million of them are kept for the next
 time.
@@ -16,7 +16,7 @@ import collectd
 settings = {"host": "127.0.0.1", "port": 8094, "scale": 1000, "every": 60, "storerates": True}
 lines = collections.deque(maxlen=1_000_000)
 sent = time.monotonic()
-# The last time and count of each source that counts up.
+# The last time and count of each counter.
 counts = {}
 
 
@@ -26,12 +26,12 @@ def configure(module):
 
 
 def name(text):
-    """A name as a line has it."""
+    """A name as it is written in a line."""
     return "".join("\\" + byte if byte in ",= " else byte for byte in text)
 
 
 def rate(key, source, moment, count, interval):
-    """What came a second since the last count; not a number for the first one, and after a restart of the count."""
+    """The rate per second since the last count; NaN for the first one, and after the count restarts."""
     _, kind, least, most = source
     if kind == "absolute":
         return count / interval
@@ -40,7 +40,7 @@ def rate(key, source, moment, count, interval):
     if moment <= before:
         return math.nan
     if kind == "counter" and count < last:
-        # It went past its greatest number, of 32 bits or of 64.
+        # It wrapped, at 32 bits or at 64.
         count += 1 << (32 if last < 1 << 32 else 64)
     found = (count - last) / (moment - before)
     is_out = least is not None and found < least or most is not None and found > most
@@ -48,7 +48,7 @@ def rate(key, source, moment, count, interval):
 
 
 def keep(values, _=None):
-    """Keeps the readings of a callback of collectd, and sends all when it is time."""
+    """Keeps the readings of a collectd callback, and sends all that are kept when it is time."""
     tags = [("host", values.host), ("instance", values.plugin_instance), ("kind", values.type_instance)]
     front = name(values.plugin) + "".join(f",{key}={name(tag)}" for key, tag in tags if tag)
     for source, value in zip(collectd.get_dataset(values.type), values.values):
@@ -63,7 +63,7 @@ def keep(values, _=None):
 
 
 def send():
-    """Sends all that is kept over one connection, to its report."""
+    """Sends all that is kept over one connection, and waits for its report."""
     global sent
     sent = time.monotonic()
     # Other threads may add lines meanwhile.

@@ -1,19 +1,19 @@
 #!/usr/bin/env python3
-"""Nodes whose disk is full for a while, or whose folder is read-only, and what they then have of what they acknowledged.
+"""Nodes whose disk is full for a while, or whose folder is read-only, and whether they keep what they acknowledged.
 
 usage: full_disk.py PROGRAM
 
-The program runs this script again with mounts of its own (`unshare`), as root or in a user's own name space, where the
-directory of a node is a tmpfs of 24 MiB.
+The script runs itself again with mounts of its own (`unshare`), as root or in a user namespace, where the directory of
+a node is a tmpfs of 24 MiB.
 
-- The disk is full: bodies are answered 500 from some body on, /health 503, fetches as ever, within a second. Once there is
-  room, all that was taken is saved by itself. The node is killed with SIGKILL: the next one has every row of every body
-  that was answered 204 or, before there was room again, 500.
+- The disk is full: from some body on bodies are answered 500, /health 503, and fetches as ever, within a second. Once
+  there is room, all that was taken is saved by itself. The node is killed with SIGKILL: the next one has every row of
+  every body that was answered 204 or, before there was room again, 500.
 - The directory is read-only at a start: the node says so and ends with status 3, and the next one has all rows.
-- No file can be made in the directory while a node runs (as another user, if this is root): no checkpoint is begun, which
-  the node says, and all bodies are answered 204 all the same; the next node has all rows.
+- No file can be made in the directory while a node runs (as another user, if this is root): no checkpoint is begun, the
+  node says so, and all bodies are still answered 204; the next node has all rows.
 
-Status 1: something was otherwise.
+Status 1: anything else happened.
 """
 
 import os
@@ -44,10 +44,10 @@ xff_num = 0
 xff_den = 1
 """
 
-# Series of which each body has a row, and their tag, which makes their records long.
+# How many series each body has a row of, and their tag, which makes their records long.
 SERIES, TAG = 1_000, "u" * 60
 
-# The user who runs a node to whom a folder may be closed, if this is root.
+# The user who runs a node whose folder is closed to it, if this is root.
 NOBODY = 65_534
 
 
@@ -80,7 +80,7 @@ class Node(http_node.Node):
         return self.errors.read_text()
 
     def write(self, row):
-        """The status of a body with a row of each series."""
+        """Writes a body with a row of each series; returns the status."""
         return self.curl("/write", body=body(row))[0]
 
     def rows_of(self, series, rows):
@@ -91,7 +91,7 @@ class Node(http_node.Node):
         return [None if it == "U" else int(it) for it in values]
 
     def lost(self, rows):
-        """How many of these rows aren't there as they were sent, of all series."""
+        """How many of these rows of all series aren't there as they were sent."""
         most, lost = max(rows) + 1, 0
         for series in range(SERIES):
             found = self.rows_of(series, most)

@@ -3,11 +3,11 @@
 
     examples/hostile.py PROGRAM
 
-PROGRAM is the built program, crates/rr_tool/out/rr_tool. A node is started with an idle time of one second.
-Each thing is done to it over TCP: silence, half a line or frame, a frame of 4 GB, random bytes, an endless
-line, a reset, answers that nobody reads; and it is left no file descriptor. After each the node has to take a
-line and to answer a fetch; while one reader is held, the keeper and the other reader have to go on at once. Ends
-with status 1 where something else comes. http_api.py and mutated.py do so to `rr node`, over HTTP.
+PROGRAM is the built program, crates/rr_tool/out/rr_tool. A node is started with an idle time of one second. Each of
+these is done to it over TCP: silence, half a line or frame, a frame of 4 GB, random bytes, an endless line, a reset,
+answers that nobody reads; and it is left without a file descriptor. After each the node has to take a line and answer a
+fetch; while one reader is held up, the keeper and the other reader have to go on at once. Ends with status 1 if
+anything else happens. http_api.py and mutated.py do the same to `rr node`, over HTTP.
 """
 
 import concurrent.futures
@@ -24,9 +24,9 @@ import threading
 import time
 
 IDLE = 1
-# What the node may hold at most, in bytes.
+# The most memory that the node may hold, in bytes.
 MOST_MEMORY = 64 * 1024**2
-# What it may work while it can take no connection, as a part of one processor.
+# How much it may work while it can take no connection, as a fraction of one processor.
 MOST_WORK = 0.2
 CONFIG = """\
 step = 60
@@ -42,7 +42,7 @@ rows = 100000
 xff_num = 0
 xff_den = 1
 """
-# What a side of this schema sends first, and the end of the cells that it names.
+# What a side with this schema sends first, and the end of the cells that it names.
 HELLO = bytes.fromhex("0000000f 01 0000003c 01 01 000186a0 0000 0001")
 SUMMARY_END = bytes.fromhex("00000001 03")
 PAGE_END = bytes.fromhex("00000001 05")
@@ -68,7 +68,7 @@ def connect(port):
 
 
 def rest_of(stream):
-    """What comes until the other side ends the connection, in order or by a reset."""
+    """What arrives until the other side ends the connection, cleanly or by a reset."""
     pieces = []
     try:
         while piece := stream.recv(65536):
@@ -81,7 +81,7 @@ def rest_of(stream):
 
 
 def ask(port, text):
-    """What is answered to a text on a connection of its own."""
+    """The answer to a text on a connection of its own."""
     with connect(port) as stream:
         stream.sendall(text)
         stream.shutdown(socket.SHUT_WR)
@@ -89,7 +89,7 @@ def ask(port, text):
 
 
 def push(stream, piece, times):
-    """Sends a piece so many times. Answers whether the other side ended the connection before."""
+    """Sends a piece this many times. Returns whether the other side ended the connection first."""
     try:
         for _ in range(times):
             stream.sendall(piece)
@@ -101,14 +101,14 @@ def push(stream, piece, times):
 
 
 def reset(stream):
-    """Closes a connection by a reset."""
+    """Closes a connection with a reset."""
     stream.setsockopt(socket.SOL_SOCKET, socket.SO_LINGER, struct.pack("ii", 1, 0))
     stream.close()
 
 
 class Peer(threading.Thread):
-    """Whom the node pulls from. It reads what the node sends, gives an answer, and then closes the connection or
-    stays silent, as `manner` says."""
+    """The peer that the node pulls from. It reads what the node sends, gives an answer, and then closes the connection
+    or stays silent, as `manner` says."""
 
     def __init__(self, port):
         super().__init__(daemon=True)
@@ -189,11 +189,11 @@ class Node:
         self.fetches(self.other)
 
     def faults(self):
-        """What the node has printed of its peer so far."""
+        """What the node has printed about its peer so far."""
         return self.errors.read_text().splitlines()
 
     def memory(self):
-        """The most memory that the node has held, where the system says so."""
+        """The most memory that the node has held, if the system tells; otherwise 0."""
         status = pathlib.Path(f"/proc/{self.process.pid}/status")
         if not status.exists():
             return 0
@@ -201,7 +201,7 @@ class Node:
         return int(words["VmHWM"].split()[0]) * 1024
 
     def work(self):
-        """The seconds that the node has worked, where the system says so."""
+        """The seconds that the node has worked, if the system tells; otherwise 0."""
         stat = pathlib.Path(f"/proc/{self.process.pid}/stat")
         if not stat.exists():
             return 0
@@ -215,7 +215,7 @@ def expect(what, got, want):
 
 
 def is_silent_after(port, text):
-    """Sends a text and nothing else; the node has to end the connection in time, with no answer."""
+    """Sends a text and nothing else; the node has to end the connection in time, without an answer."""
     began = time.monotonic()
     with connect(port) as stream:
         stream.sendall(text)
@@ -225,7 +225,7 @@ def is_silent_after(port, text):
 
 
 def line_then_silence(node):
-    """A line before the silence stands, and is published with the next ones."""
+    """A line before the silence is taken, and is published with the next ones."""
     is_silent_after(node.lines, b"late v=5i 0\n")
     node.writes_line()
     answer = ask(node.fetch, b"fetch LAST 60 0 60 late v\n")
@@ -241,14 +241,14 @@ def endless_line(port, want):
 
 
 def noise(port, last):
-    """Sends random bytes; the last line of their answer has to begin so."""
+    """Sends random bytes; the last line of the answer has to begin with `last`."""
     lines = ask(port, NOISE[:50_000]).rstrip(b"\n").split(b"\n")
     expect("random bytes", lines[-1][:len(last)], last)
 
 
 def nobody_reads(node, port, piece):
-    """Sends much that is answered, and reads nothing, until the node ends the connection. The other threads go
-    on at once meanwhile."""
+    """Sends much that is answered but reads nothing, until the node ends the connection. Meanwhile the other threads
+    have to go on at once."""
     with connect(port) as stream, concurrent.futures.ThreadPoolExecutor() as pool:
         pushing = pool.submit(push, stream, piece, 10_000)
         time.sleep(0.2)
@@ -270,7 +270,7 @@ def closes_at_once(port):
 
 
 def no_descriptor(node, port):
-    """Leaves the node no file descriptor while connections come. It may not try again and again to take one."""
+    """Leaves the node no file descriptor while connections arrive. It must not keep trying to take one."""
     pid, kind = node.process.pid, resource.RLIMIT_NOFILE
     soft, hard = resource.prlimit(pid, kind)
     resource.prlimit(pid, kind, (0, hard))
@@ -286,7 +286,7 @@ def no_descriptor(node, port):
 
 
 def frames(port):
-    """Sessions of wrong frames end with no answer."""
+    """Sessions of wrong frames end without an answer."""
     for text in (b"\0\xff\xff\xff", HELLO + HUGE, HELLO + HELLO, b"\0" * 1_000, b"\0" + NOISE):
         with connect(port) as stream:
             push(stream, text, 1)
@@ -294,7 +294,7 @@ def frames(port):
 
 
 def pulls(node, answer, is_silent, fault):
-    """Has the node pull from a peer that answers so, once or twice: after each line connection, and before the
+    """Has the node pull once or twice from a peer that answers this way: after each line connection, and before the
     next one is taken."""
     before = len(node.faults())
     node.peer.manner = (answer, is_silent)
@@ -306,7 +306,7 @@ def pulls(node, answer, is_silent, fault):
 
 
 def deeds(node):
-    """What is done to the node, by its name."""
+    """What is done to the node, by name."""
     big = b"fetch LAST 60 0 6000000 m v\n" * 1_000
     too_long = b"line 1: LineTooLong\npoints 0 samples 0 refused 1\n"
     return {

@@ -3,12 +3,12 @@
 
     examples/http_api.py PROGRAM
 
-PROGRAM is the built program, crates/rr_tool/out/rr_tool. Writes in the forms of both versions of InfluxDB and of the clients
-that are common, fetches, keys, counts, the page's texts, each refusal, requests one after the other and at once on one
-connection, 16 senders of 1,000 lines at once, line connections that are silent, and requests that are no requests. After
-each of these the node has to answer. Then a node that is killed once it has answered and started again from its directory,
-one whose journal can't grow for a while, and one with fewer file descriptors than connections. Ends with status 1 where
-something else comes.
+PROGRAM is the built program, crates/rr_tool/out/rr_tool. It is sent writes in the forms of both versions of InfluxDB
+and of common clients, fetches, keys, counts, the page's texts, each refusal, requests one after another and at once on
+one connection, 16 senders of 1,000 lines at once, silent line connections, and requests that aren't requests. After
+each of these the node has to answer. Then come a node that is killed once it has answered and restarted from its
+directory, one whose journal can't grow for a while, and one with fewer file descriptors than connections. Ends with
+status 1 if anything else happens.
 """
 
 import concurrent.futures
@@ -35,7 +35,7 @@ def status_of(answer):
 
 
 def send_lines(node, text):
-    """What a line connection is answered."""
+    """Sends lines over a line connection; returns what it is answered."""
     with socket.create_connection(("127.0.0.1", node.lines), timeout=30) as stream:
         stream.sendall(text.encode())
         stream.shutdown(socket.SHUT_WR)
@@ -43,12 +43,12 @@ def send_lines(node, text):
 
 
 def post(body, *fields):
-    """The bytes of a write, with more fields."""
+    """The bytes of a write, with additional header fields."""
     return b"\r\n".join([b"POST /write HTTP/1.1", b"Host: a", *fields, b"Content-Length: %d" % len(body), b"", body])
 
 
 def get(path, *fields):
-    """The bytes of a request that reads, with more fields."""
+    """The bytes of a request that reads, with additional header fields."""
     return b"\r\n".join([b"GET %s HTTP/1.1" % path, b"Host: a", *fields, b"", b""])
 
 
@@ -120,7 +120,7 @@ def keys(node):
 
 
 def counts_of(node):
-    """The numbers of a node by their names, with their labels. They are put up once a second."""
+    """The counts of a node by name, with their labels. They are published once a second."""
     for _ in range(100):
         text = node.curl("/metrics")[1]
         if text:
@@ -160,7 +160,7 @@ def page(node):
 
 
 def clients(node):
-    """Requests as clients send them: Telegraf's outputs.influxdb, InfluxDB's Python clients of both versions."""
+    """Requests as clients send them: Telegraf's outputs.influxdb, InfluxDB's Python clients of both versions, curl."""
     line = b"client n=1i 0\n"
     chunked = b"%x\r\n%s\r\n0\r\n\r\n" % (len(line), line)
     plain = b"Content-Length: %d\r\n\r\n%s" % (len(line), line)
@@ -202,7 +202,7 @@ def at_once(node):
 
 
 def connections(node):
-    """A connection stays until a side wants it to end."""
+    """A connection stays open until a side wants it to end."""
     with node.connect() as stream, stream.makefile("rb") as reader:
         for _ in range(3):
             stream.sendall(get(b"/health"))
@@ -246,7 +246,7 @@ def many_senders(node):
 
 
 def silent_lines(node):
-    """Line connections that are silent, after half a line or from the beginning: they hold nobody, and are ended in time."""
+    """Line connections that are silent, after half a line or from the start, hold up nobody, and are ended in time."""
     began = time.monotonic()
     silent = [socket.create_connection(("127.0.0.1", node.lines), timeout=30) for _ in range(20)]
     for stream in silent[10:]:
@@ -280,7 +280,7 @@ def hostile(node):
 
 
 def halves(node):
-    """Halves of a head and of a body hold nobody, and are ended in time."""
+    """Halves of heads and of bodies hold up nobody, and are ended in time."""
     began = time.monotonic()
     waiting = [node.connect() for _ in range(40)]
     for stream in waiting[:20]:
@@ -319,12 +319,13 @@ def kept(program, folder):
 
 
 def limit_files(node, most):
-    """Lets no file of a node grow beyond so many bytes."""
+    """Lets no file of a node grow beyond this many bytes."""
     resource.prlimit(node.process.pid, resource.RLIMIT_FSIZE, (most, resource.RLIM_INFINITY))
 
 
 def failing_journal(program, folder, lines):
-    """The journal can't grow for a while: so many lines are taken and answered as not saved, and are saved once they can be."""
+    """The journal can't grow for a while: this many lines are taken and answered as not saved, and are saved once they
+    can be."""
     node = Node(program, folder)
     try:
         check("a write that is saved", node.curl("/write", body=b"a v=1i 0\n")[0], 204)
@@ -348,7 +349,7 @@ def failing_journal(program, folder, lines):
 
 
 def few_descriptors(program, folder):
-    """A node that may have fewer file descriptors than there are silent connections still answers a good client."""
+    """A node with fewer file descriptors than there are silent connections still answers a good client."""
     node = Node(program, folder)
     silent = []
     try:

@@ -35,7 +35,7 @@ def check(what, got, want):
 
 
 def within(seconds, is_so):
-    """Waits until something is so, and answers whether it was in time."""
+    """Waits until a condition holds. Returns whether it did in time."""
     end = time.monotonic() + seconds
     while not is_so():
         if time.monotonic() > end:
@@ -54,7 +54,7 @@ def free_ports(count):
 
 
 def read_all(stream):
-    """What comes until the other side ends the connection, in order or by a reset."""
+    """What arrives until the other side ends the connection, cleanly or by a reset."""
     text = b""
     try:
         while piece := stream.recv(65536):
@@ -65,7 +65,7 @@ def read_all(stream):
 
 
 def read_answer(reader, has_body=True):
-    """The status, the fields and the text of the next answer on a connection; nothing if it has ended."""
+    """The status, the fields and the text of the next answer on a connection; none if it has ended."""
     line = reader.readline()
     if not line:
         return None
@@ -78,14 +78,14 @@ def read_answer(reader, has_body=True):
 
 
 class Node:
-    """A node in a folder, whose data are in a directory there, and what it answers."""
+    """A node in a folder, with its data in a directory there, and what it answers."""
 
     def __init__(self, program, folder):
         self.http, self.lines = free_ports(2)
         self.data = pathlib.Path(folder, "data")
         config = pathlib.Path(folder, "node.toml")
         config.write_text(CONFIG.format(http=self.http, lines=self.lines, idle=IDLE))
-        # Where a file may grow no more, its write is to fail, and no signal to end the node.
+        # If a file may grow no more, the write is to fail, rather than a signal to end the node.
         self.words = ["env", "--ignore-signal=XFSZ", program, "node", str(config), "--data", str(self.data)]
         self.start()
 
@@ -114,7 +114,7 @@ class Node:
         return socket.create_connection(("127.0.0.1", self.http), timeout=timeout)
 
     def curl(self, path, *words, body=None):
-        """The status and the text that curl is answered."""
+        """The status and the text of the answer that curl gets."""
         if body is not None:
             words += ("--data-binary", "@-")
         url = f"http://127.0.0.1:{self.http}{path}"
@@ -131,7 +131,7 @@ class Node:
             return [read_answer(reader, has_body) for _ in range(count)]
 
     def ask_and_end(self, request):
-        """All that is answered to bytes, after which the node has to end the connection."""
+        """The whole answer to bytes, after which the node has to end the connection."""
         with self.connect() as stream:
             try:
                 stream.sendall(request)

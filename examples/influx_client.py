@@ -1,5 +1,5 @@
 #!/usr/bin/python3
-"""Writes into a node over HTTP by InfluxDB's own client for Python, and compares what a fetch then answers.
+"""Writes into a node over HTTP with InfluxDB's own client for Python, and checks what a fetch then answers.
 
 usage: influx_client.py PROGRAM
 

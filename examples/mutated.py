@@ -1,14 +1,14 @@
 #!/usr/bin/env python3
-"""Mutated requests in turns with good ones: the node neither ends nor hangs, nor does it answer out of order.
+"""Mutated requests, interleaved with good ones: the node neither ends nor hangs, nor does it answer out of order.
 
     examples/mutated.py PROGRAM [COUNT] [SEED]
 
-PROGRAM is the built program, crates/rr_tool/out/rr_tool. COUNT requests, 10,000 if left out, have bytes flipped, cut out,
-put in or doubled, and some come behind others that were sent at once. Each is sent on a connection of its own, in pieces
-that are cut anywhere, behind up to three good requests, and then that side ends; one in ten is reset. The good ones have to
-be answered first, each as it should be, and whatever is answered then has to be answers as well. Behind each, a good
-request is answered on another connection that stays. At the end the last thousand good writes are there. Prints a line;
-ends with status 1 where something else comes. SEED, 1 if left out, begins the random choices.
+PROGRAM is the built program, crates/rr_tool/out/rr_tool. COUNT requests, 10,000 by default, have bits flipped, or bytes
+cut out, inserted or doubled, and some come after others that are sent along with them. Each is sent on a connection of
+its own, in pieces that are cut anywhere, after up to three good requests, and then that side ends; one in ten is reset.
+The good ones have to be answered first, each as it should be, and what is answered then has to be answers as well.
+After each, a good request is answered on another connection that stays open. At the end the last thousand good writes
+are there. Prints a line; ends with status 1 if anything else happens. SEED, 1 by default, seeds the random choices.
 """
 
 import random
@@ -20,10 +20,10 @@ import time
 
 from http_node import Node, fail, read_answer
 
-# A connection is ended, and a request answered, within so many seconds.
+# A connection is ended, and a request answered, within this many seconds.
 LONGEST = 10
 
-# One in so many good requests is a write, to a row of its own.
+# One in this many good requests is a write, to a row of its own.
 WRITES = 20
 
 STATUSES = {100, 200, 204, 400, 404, 405, 413, 414, 415, 431, 501}
@@ -72,7 +72,7 @@ def doubled(text, chance):
 
 
 def mutated(chance):
-    """A request with one to four mutations, behind up to two requests as they should be."""
+    """A request with one to four mutations, after up to two requests as they should be."""
     text = chance.choice(REQUESTS)
     for _ in range(chance.randrange(1, 5)):
         text = chance.choice([flipped, flipped, without_a_piece, with_noise, doubled])(text, chance)
@@ -80,7 +80,7 @@ def mutated(chance):
 
 
 class Good:
-    """Good requests, and what each is answered: fetches of a key of their own, and writes to a row of their own."""
+    """Good requests and their answers: fetches, each of a key of its own, and writes, each to a row of its own."""
 
     def __init__(self):
         self.asked = self.written = 0
@@ -96,7 +96,7 @@ class Good:
 
 
 def send(stream, text, chance):
-    """Sends a text in pieces, and ends this side, unless the other side ends the connection before."""
+    """Sends a text in pieces, and ends this side, unless the other side ends the connection first."""
     places = sorted(chance.choices(range(len(text) + 1), k=chance.choice([0, 1, 2, 5])))
     try:
         for first, last in zip([0, *places], [*places, len(text)]):
@@ -107,7 +107,7 @@ def send(stream, text, chance):
 
 
 def are_answers(text, may_lack_bodies):
-    """Whether a text is whole answers. One to HEAD has no body, whatever its length is."""
+    """Whether a text consists of whole answers. One to HEAD has no body, whatever length it states."""
     if not text:
         return True
     head, end, rest = text.partition(b"\r\n\r\n")
@@ -123,7 +123,7 @@ def are_answers(text, may_lack_bodies):
 
 
 def begins_with(reader, answers):
-    """Whether the answers that come begin with these."""
+    """Whether the answers that arrive begin with these."""
     for want in answers:
         answer = read_answer(reader)
         if answer is None or (answer[0], answer[2]) != want:
@@ -132,13 +132,13 @@ def begins_with(reader, answers):
 
 
 def ask(stream, reader, request, want):
-    """Whether a request on a connection that stays is answered as it should be."""
+    """Whether a request on a connection that stays open is answered as it should be."""
     stream.sendall(request)
     return begins_with(reader, [want])
 
 
 def try_one(node, good, chance):
-    """Asks for something good and for something that isn't. Answers what was wrong, if anything was, and what was sent."""
+    """Sends good requests and one that isn't. Returns what was wrong, if anything was, and what was sent."""
     before = [good.next() for _ in range(chance.randrange(4))]
     bad = mutated(chance)
     text = b"".join(request for request, _ in before) + bad
@@ -158,7 +158,7 @@ def try_one(node, good, chance):
 
 
 def run(node, count, chance):
-    """Tries so many, and gives how many good requests there were."""
+    """Tries this many, and returns how many good requests there were."""
     good = Good()
     with node.connect(LONGEST) as stream, stream.makefile("rb") as reader:
         for number in range(count):

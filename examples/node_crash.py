@@ -1,13 +1,13 @@
 #!/usr/bin/env python3
-"""Kills a node at random moments while it takes lines, and sees that nothing is lost that it acknowledged.
+"""Kills a node at random moments while it takes lines, and checks that nothing that it acknowledged is lost.
 
 usage: node_crash.py PROGRAM [KILLS] [SEED]
 
-Senders write over HTTP and over line connections, each to a series of its own and each sample to a row of its own,
-and note what is acknowledged: a body by 204, a connection by its report. At a random moment the node is killed with
-SIGKILL, started again from its directory, and asked for all rows since the kill before; at the end it is asked for all
-rows. A row that was acknowledged has the value that was written; one that was sent may have it or not. KILLS is 500 and
-SEED 1, if missing. Status 1: something was lost.
+Senders write over HTTP and over line connections, each to a series of its own and each sample to a row of its own, and
+note what is acknowledged: a body by 204, a connection by its report. At a random moment the node is killed with
+SIGKILL, restarted from its directory, and asked for all rows since the previous kill; at the end it is asked for all
+rows. A row that was acknowledged has the value that was written; one that was only sent may have it or not. KILLS is
+500 and SEED 1 by default. Status 1: something was lost.
 """
 
 import bisect
@@ -39,7 +39,7 @@ xff_den = 1
 # The second of each series' first row.
 BEGIN = 1_700_000_000
 
-# Rows of a series: then its sender goes on with another one.
+# Rows of a series, after which its sender goes on with another one.
 ROWS = 50_000
 
 
@@ -76,7 +76,7 @@ class Sender:
 
 
 class HttpSender(Sender):
-    """Writes bodies over a connection that stays."""
+    """Writes bodies over a connection that stays open."""
 
     def send_all(self, ports, stopped):
         connection = http.client.HTTPConnection("127.0.0.1", ports["http"], timeout=10)
@@ -93,7 +93,7 @@ class HttpSender(Sender):
 
 
 class LineSender(Sender):
-    """Writes over a connection for each batch, in two pieces that part a line."""
+    """Writes each batch over a connection of its own, in two pieces that split a line."""
 
     def send_all(self, ports, stopped):
         while not stopped.is_set():
@@ -137,7 +137,7 @@ class Node:
         self.process.wait()
 
     def values(self, sender, first, last):
-        """The value of each known row from the first up to the last one, which are of one series."""
+        """The value of each known row from `first` on and before `last`, all of one series."""
         start, end = BEGIN + first % ROWS, BEGIN + (last - 1) % ROWS + 1
         query = f"cf=LAST&resolution=1&start={start}&end={end}&key={sender.series(first)}%20v"
         connection = http.client.HTTPConnection("127.0.0.1", self.ports["http"], timeout=60)
@@ -150,7 +150,7 @@ class Node:
 
 
 def lost(node, sender, since, until):
-    """The rows that were acknowledged and aren't there, or have another value."""
+    """The acknowledged rows that aren't there or have another value."""
     known = sender.acknowledged
     rows = known[bisect.bisect_left(known, since) : bisect.bisect_left(known, until)]
     found = {}

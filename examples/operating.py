@@ -1,12 +1,12 @@
 #!/usr/bin/env python3
-"""A node that pulls and saves by time, and what it says to its operator.
+"""A node that pulls and saves at intervals, and what it tells its operator.
 
     examples/operating.py PROGRAM
 
-PROGRAM is the built program. Configurations, snapshots and addresses that are refused are said why. A node with `every`
-saves also if no line comes, calls a silent peer less and less often, and says what its rounds did, on standard error and
-in a file of counts. A node that saves once an hour saves at once if it is asked to by an empty line connection. Two
-nodes under one origin, and two of different archives, are told. Ends with status 1 where something else comes.
+PROGRAM is the built program. Refused configurations, snapshots and addresses are reported with the reason. A node with
+`every` saves even if no line comes, calls a silent peer less and less often, and says what its rounds did, on standard
+error and in a file of counts. A node that saves once an hour saves at once if an empty line connection asks it to. Two
+nodes under one origin, and two of different steps, are reported. Ends with status 1 if anything else happens.
 """
 
 import atexit
@@ -28,7 +28,7 @@ ARCHIVE = "[[archive]]\nsteps = 1\nrows = 1440\nxff_num = 0\nxff_den = 1\n"
 
 
 def config(more="", step=60, lines=LINES, fetch=FETCH):
-    """The text of a configuration, with more keys."""
+    """The text of a configuration, with additional keys."""
     return (
         f'step = {step}\nlines = "127.0.0.1:{lines}"\nfetch = ["127.0.0.1:{fetch}"]\n'
         f"lead = 300_000_000_000\n{more}{ARCHIVE}"
@@ -42,7 +42,7 @@ def check(what, is_so, said=""):
 
 
 def send(text, port=LINES):
-    """What is answered to lines."""
+    """The answer to lines."""
     for _ in range(100):
         try:
             with socket.create_connection(("127.0.0.1", port), timeout=20) as stream:
@@ -55,7 +55,7 @@ def send(text, port=LINES):
 
 
 class Node:
-    """A node in a folder, with a configuration and more words."""
+    """A node in a folder, with a configuration and more arguments."""
 
     def __init__(self, program, folder, text, *words):
         self.file = folder / "node.toml"
@@ -66,13 +66,13 @@ class Node:
         atexit.register(self.process.kill)
 
     def end(self):
-        """Its lines on standard error, once it is ended."""
+        """Ends it, and returns its lines on standard error."""
         self.process.kill()
         return self.process.communicate()[1].splitlines()
 
 
 def refused(program, folder, what, text, status, last, *words):
-    """A node that doesn't start: the last line, and the one before it, which says why."""
+    """Checks a node that doesn't start: its last line, and the one before it, which says why."""
     node = Node(program, folder, text, *words)
     *_, why, line = node.process.communicate(timeout=60)[1].splitlines()
     print(f"{what}: {why.replace(str(node.file), 'node.toml')}")
@@ -92,7 +92,7 @@ def refusals(program, folder):
 
 
 def by_time(program, folder):
-    """A node with an interval of a second and a peer that is silent."""
+    """A node with an interval of a second and a silent peer."""
     status = folder / "node.prom"
     keys = f'every = 1\nidle = 1\nstatus = "{status}"\npeers = ["127.0.0.1:{PEER}"]\n'
     with socket.create_server(("127.0.0.1", PEER)):
@@ -115,13 +115,13 @@ def by_time(program, folder):
     form = re.compile(rf"round: {counts} cells 1 pulls \d+\.\d{{3}} save \d+\.\d{{3}}")
     rounds = [found.groups() for line in said if (found := form.fullmatch(line))]
     check("a line an interval", rounds.count(("1", "2", "2", "1", "1")) == 1 and rounds.count(("0",) * 5) >= 5, said)
-    # It is called in intervals 1, 3, 6, 11: of 16 seconds it holds a few, though it is silent for one each time.
+    # It is called in intervals 1, 3, 6 and 11, and each time holds the node up for a second.
     calls = said.count("peer 1: ReadFailed")
     check("a silent peer is passed over", 2 <= calls <= 4, said)
 
 
 def stop(program, folder):
-    """A node that saves once an hour, and is asked to."""
+    """A node that saves once an hour, and is asked to at once."""
     node = Node(program, folder, config("every = 3600\nquiet = true\n"), "--save", "node.snapshot")
     send("m v=1i\n")
     send("m v=2i\n")
@@ -136,7 +136,7 @@ def stop(program, folder):
 
 
 def pair(program, folder, step):
-    """A node, and one of a step that pulls from it under the same origin."""
+    """A node, and one with this step that pulls from it under the same origin."""
     (folder / "other").mkdir()
     first = Node(program, folder, config("quiet = true\n"))
     keys = f'idle = 20\nquiet = true\npeers = ["127.0.0.1:{FETCH}"]\n'
@@ -150,21 +150,21 @@ def one_origin(program, folder):
     for value in 1, 2, 3:
         send(f"m v={value}i\n")
         send("", OTHER_LINES)
-    # It is taken once the pull of the last round is over.
+    # This connection is taken once the pull of the last round is over.
     send("", OTHER_LINES)
     check("an origin that is used twice is told", other.end() == ["peer 1: own origin"])
     check("the one that gives says nothing", first.end() == [])
 
 
 def two_schemas(program, folder):
-    """A node of another step pulls with more names than connections hold: both sides learn of it."""
+    """A node with another step pulls, with more names than connections buffer: both sides learn of it."""
     first, other = pair(program, folder, 30)
     send("".join(f"m{number} v=1i\n" for number in range(50_000)), OTHER_LINES)
     send("", OTHER_LINES)
     # It says so in its next round, which is over once another connection is taken.
     send("")
     send("")
-    # The one that pulls is ended first, so that it calls no peer that isn't there.
+    # The one that pulls is ended first, so that it doesn't call a peer that is gone.
     pulled, gave = other.end(), first.end()
     check("the side that gives says why", set(gave) == {"session: SchemaDiffers"}, gave)
     check("the side that pulls learns that it was ended", set(pulled) == {"peer 1: Ended"}, pulled)

@@ -1,11 +1,11 @@
 #!/usr/bin/env python3
-"""The page of a node in a browser: its list, its plot, a gap, and a sample that comes while it is open.
+"""The page of a node in a browser: its list, its plot, a gap, and a sample that arrives while it is open.
 
     examples/page.py PROGRAM [PICTURE]
 
-PROGRAM is the built program, crates/rr_tool/out/rr_tool; PICTURE is a file that the page is pictured in. Takes Debian's
-chromium, without a window, over the pipe of its DevTools. Two series of six hours are written, one of them with an hour that
-is missing. Ends with status 1 where the page shows something else, or where it breaks its own policy.
+PROGRAM is the built program, crates/rr_tool/out/rr_tool; PICTURE is a file for a screenshot of the page. Uses Debian's
+chromium, without a window, over the pipe of its DevTools. Two series of six hours are written, one of them with an hour
+missing. Ends with status 1 if the page shows anything else, or breaks its own policy.
 """
 
 import base64
@@ -29,7 +29,7 @@ FLAGS = ["--headless=new", "--no-sandbox", "--disable-gpu", "--hide-scrollbars",
 
 
 class Browser:
-    """A page in Chromium, and what its DevTools answer: messages of JSON that end in a zero byte."""
+    """A page in Chromium, and what its DevTools answer: JSON messages that end in a zero byte."""
 
     def __init__(self, folder):
         own_reads, its_writes = os.pipe()
@@ -90,7 +90,7 @@ class Browser:
         check(what, got, want)
 
     def complaints(self):
-        """What the browser logged, as of a policy that was broken, and what the script failed with."""
+        """What the browser logged, such as a broken policy, and what the script failed with."""
         logged = [event["params"]["entry"]["text"] for event in self.events if event["method"] == "Log.entryAdded"]
         thrown = [event["params"]["exceptionDetails"]["text"] for event in self.events
                   if event["method"] == "Runtime.exceptionThrown"]
@@ -106,7 +106,7 @@ def curve(minute, offset):
 
 
 def lines_until(minute):
-    """Two series up to a minute, without it; the first lacks an hour."""
+    """Two series up to a minute, which isn't included; the first lacks an hour."""
     text = []
     for back in range(MINUTES, 0, -1):
         time_of = (minute - back) * 60_000_000_000
@@ -116,7 +116,7 @@ def lines_until(minute):
     return "".join(text).encode()
 
 
-# Of each line of the plot its key, its points, and into how many pieces gaps cut it.
+# For each line of the plot, its key, its number of points, and the number of pieces that gaps cut it into.
 SHAPES = """JSON.stringify([...document.querySelectorAll("#plot path")].map((path) => {
     const text = path.getAttribute("d");
     return [path.dataset.key, text.split(/[ML]/).length - 1, text.split("M").length - 1];

@@ -1,12 +1,12 @@
 #!/usr/bin/env python3
-"""A node that is started again with one archive more in its configuration.
+"""A node that is restarted with one more archive in its configuration.
 
     examples/upgrade.py PROGRAM
 
-PROGRAM is the built program, crates/rr_tool/out/rr_tool. A node of ten rows a minute takes two readings and is stopped.
-An archive of rows of five minutes is added to its configuration, and it is started from its snapshot under a new
-origin: the minutes are there, and the new archive fills with what comes then. Without the first archive its snapshot is
-refused. Ends with status 1 where something else comes.
+PROGRAM is the built program, crates/rr_tool/out/rr_tool. A node with ten one-minute rows takes two readings and is
+stopped. An archive with five-minute rows is added to its configuration, and it is started from its snapshot under a new
+origin: the minutes are there, and the new archive fills with what comes then. Without the new archive its snapshot is
+refused. Ends with status 1 if anything else happens.
 """
 
 import pathlib
@@ -24,7 +24,7 @@ FIVE = "[[archive]]\nsteps = 5\nrows = 12\nxff_num = 2\nxff_den = 5\n"
 
 
 def ask(port, text):
-    """What is answered to a text on a connection of its own."""
+    """The answer to a text on a connection of its own."""
     for _ in range(100):
         try:
             with socket.create_connection(("127.0.0.1", port), timeout=10) as stream:
@@ -55,7 +55,7 @@ def rows(resolution, end):
 
 
 class Node:
-    """A node of these archives under an origin, from its snapshot unless it is the first start."""
+    """A node with these archives under an origin, from its snapshot unless this is the first start."""
 
     def __init__(self, program, folder, archives, origin):
         config = folder / "node.toml"

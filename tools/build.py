@@ -1,14 +1,14 @@
 #!/usr/bin/env python3
-"""Proves the crates of a program, builds it, and says on standard error how far it is.
+"""Proves the crates of a program, builds it, and reports progress on standard error.
 
 usage: build.py [PROGRAM]
 
-PROGRAM is a crate of the repository that is a program: rr_tool, if missing.
+PROGRAM is a crate of the repository that is a program; rr_tool by default.
 
-Each library is proved from nothing and handed on as the gate does it, by its statements: `rt lib` hands on
-the proofs too, which each crate above would load. A library is kept in its folder out/ until a source changes,
-so a run that was interrupted goes on with the crates that it lacked. Ends with status 1 where a proof or the
-build fails, with what was printed about it.
+Each library is proved from scratch and passed on by its statements, as the gate does it: `rt lib` passes on the proofs
+too, which each crate above would load. A library is kept in its folder out/ until a source changes, so after an
+interruption the next run proves only the crates that are left. If a proof or the build fails, prints its output and
+ends with status 1.
 """
 
 import concurrent.futures
@@ -27,7 +27,7 @@ import time
 
 from crates import TOP, lines, listed, with_those_below
 
-# The program with all words.
+# The program with every command.
 WHOLE = "rr_tool"
 
 # The toolchain, whose command is KIT/bin/rt.
@@ -36,25 +36,25 @@ KIT = pathlib.Path(shutil.which("rt") or sys.exit("build.py: no command rt")).re
 # Memory that the proof of one crate may take, in bytes.
 CRATE_MEMORY = 4 * 1024**3
 
-# A way up to the program is long from this part of the longest on.
+# A path up to the program is long from this fraction of the longest on.
 LONG = 0.95
 
-# Seconds between two lines of progress.
+# Seconds between lines of progress.
 INTERVAL = 15
 
-# What a proof prints of what is well, and of how far it is.
+# What a proof prints of successes and of progress.
 WELL = re.compile(r"(fn|impl|struct|enum) \S+: proved|(checked \S+,|so far:) \d+ of \d+|statements \w+: ")
 
-# What a proof reads of a crate.
+# The folders of a crate that a proof reads.
 SOURCES = ("src", "specs", "proofs")
 
 
 class Failed(Exception):
-    """A command failed; has what it printed."""
+    """A command failed; holds what it printed."""
 
 
 def room_for_proofs():
-    """How many crates memory has room to prove side by side."""
+    """How many crates can be proved side by side without running out of memory."""
     return max(1, os.sysconf("SC_PAGE_SIZE") * os.sysconf("SC_PHYS_PAGES") // CRATE_MEMORY)
 
 
@@ -70,17 +70,17 @@ def sources(name):
 
 
 def out(name):
-    """Where what is made of a crate is kept."""
+    """The folder for what is built from a crate."""
     return TOP / "crates" / name / "out"
 
 
 def library(name):
-    """Where a library's statements are, with its interface and its code."""
+    """The folder with a library's statements, interface and code."""
     return out(name) / "statements" / f"{name}.rlib"
 
 
 def kept_digest(name):
-    """The file with the digest of what a library was made of."""
+    """The file with the digest of what a library was built from."""
     return out(name) / "statements/digest"
 
 
@@ -96,7 +96,7 @@ class Crates:
 
     @functools.cache
     def digest(self, name):
-        """Of the sources of a crate, of what it stands on, and of the toolchain."""
+        """The digest of a crate's sources, of what it stands on, and of the toolchain."""
         digest = hashlib.sha256((KIT / "KIT-ID").read_bytes() + self.lines[name].encode())
         for it in self.uses[name]:
             digest.update(self.digest(it).encode())
@@ -109,7 +109,7 @@ class Crates:
         return library(name).is_dir() and kept.is_file() and kept.read_text() == self.digest(name)
 
     def words(self, name):
-        """The words by which a crate is proved and built, over the libraries below it."""
+        """The command line that proves and builds a crate, over the libraries below it."""
         used = dict.fromkeys(["std", *self.lines[name].partition("#")[0].partition(":")[2].split()])
         folder = TOP / "crates" / name / "src"
         words = ["--crate-name", name, next(it for it in (folder / "main.rt", folder / "lib.rt") if it.exists())]
@@ -123,7 +123,7 @@ class Crates:
 
 
 class Build:
-    """The crates that are proved, those that are being proved, and the commands that run."""
+    """The crates proved so far, those being proved, and the running commands."""
 
     def __init__(self, program):
         self.began = time.monotonic()
@@ -143,14 +143,14 @@ class Build:
         print(f"rr: {minutes}:{seconds:02} {text}", file=sys.stderr, flush=True)
 
     def remind(self):
-        """Says from time to time what is being proved."""
+        """Says from time to time which crates are being proved."""
         while not self.ended.wait(INTERVAL):
             names = ", ".join(sorted(self.running.values()))
             if names:
                 self.say(f"proving {names}")
 
     def run(self, *command):
-        """Runs a command, which ends with this run."""
+        """Runs a command, which doesn't outlive this run."""
         process = subprocess.Popen(
             command,
             cwd=TOP,
@@ -174,13 +174,13 @@ class Build:
             raise Failed(said)
 
     def stop(self):
-        """Ends all commands that run, and each that would run later."""
+        """Ends all running commands, and any that start later."""
         self.stopped.set()
         for process in list(self.commands):
             os.killpg(process.pid, signal.SIGTERM)
 
     def prove(self, name, jobs, gives_way):
-        """Proves a library over those below it, which are proved; others may come before it."""
+        """Proves a library over those below it, which are proved already; at low priority if it gives way."""
         if self.crates.is_proved(name):
             return
         kept = kept_digest(name)
@@ -191,7 +191,7 @@ class Build:
         kept.write_text(self.crates.digest(name))
 
     def ways(self):
-        """For each crate that isn't proved, the size of the longest way from it up to the program."""
+        """For each crate that isn't proved, the size of the longest path from it up to the program."""
         ways = {}
         for name in reversed(self.uses):
             above = [way for it, way in ways.items() if name in self.uses[it]]
@@ -199,9 +199,9 @@ class Build:
         return {name: way for name, way in ways.items() if name not in self.proved}
 
     def begin(self, pool, most):
-        """Begins the proofs that can begin, as many as there are cores, first those of the longest ways. A crate on
-        a long way has half of the cores, and all of them where no other can be proved meanwhile, since all wait
-        for it; further jobs cost more than they gain elsewhere, and what isn't waited for gives way."""
+        """Starts proofs that are ready, up to `most` at once, those on the longest paths first. A crate on a long path
+        gets half of the cores, or all of them if no other can be proved meanwhile, since everything waits for it.
+        Elsewhere more jobs cost more than they gain, and a crate that isn't waited for gives way."""
         ways, running = self.ways(), {*self.running.values()}
         ready = [it for it in self.libraries if it in ways and it not in running and not ways.keys() & self.uses[it]]
         ready.sort(key=ways.get, reverse=True)
@@ -232,7 +232,7 @@ class Build:
                 raise
 
     def build(self):
-        """Proves and builds the program, over the libraries."""
+        """Proves and builds the program over the libraries."""
         self.say("proving and building the program")
         compiler = "rattle" if "backend=rattle" in self.crates.lines[self.program] else "llvm"
         made = out(self.program) / f"{self.program}.o"
@@ -247,7 +247,7 @@ class Build:
 
 
 def wait_for_others():
-    """Lets no other run build until this one ends; where one builds already, says so and waits for its end."""
+    """Keeps other runs from building until this one ends; if one is building already, says so and waits for it."""
     folder = os.open(TOP, os.O_RDONLY)
     try:
         fcntl.flock(folder, fcntl.LOCK_EX | fcntl.LOCK_NB)
@@ -257,7 +257,7 @@ def wait_for_others():
 
 
 def interrupt(number, frame):
-    """Ends the build, with all that it runs, as an interrupt from the keyboard does."""
+    """Ends the build and all that it runs, like an interrupt from the keyboard."""
     raise KeyboardInterrupt
 
 

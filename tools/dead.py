@@ -3,9 +3,9 @@
 
 usage: dead.py
 
-Looks at each name that a file of specs/ or proofs/ defines, but for the answers and invariants of functions, and at each
-word of all source files that is in no comment. Prints a line for each name that stands nowhere but in its own
-definition, FILE:LINE: NAME, and then ends with status 1.
+Looks for the names that files of specs/ and proofs/ define, except answers and invariants of functions, among the words
+of all source files, outside comment lines. Prints a line FILE:LINE: NAME for each name that occurs only in its own
+definition, and then ends with status 1.
 """
 
 import collections
@@ -14,12 +14,12 @@ import sys
 
 from crates import TOP
 
-# How a definition begins: by its kind, or as a lemma by its name and its statement.
+# How a definition begins: with its kind, or, for a lemma, with its name and statement.
 HEAD = re.compile(r"(?:(?:abbrev|unfoldable|opaque|record|data)\s+)?(?:pub\s+)?(?:record\s+|data\s+)?([^\s(){}:]+)\s*(?:[({].*?[)}]\s*)*:\s")
 
 WORD = re.compile(r"[^\s(){}\[\],;.λ:`|]+")
 
-# Files that the prover reads by the names of goals.
+# Files that the prover searches by the names of goals.
 ANSWERS = {"Answers.antt", "Invariants.antt", "Proof.antt"}
 
 NO_NAMES = {"use", "mod", "pub", "module", "where", "let", "in"}
@@ -31,7 +31,7 @@ def source_files():
 
 
 def lines_of(path):
-    """The lines of a file, with no text in those that are comments."""
+    """The lines of a file, with comment lines emptied."""
     return ["" if line.lstrip().startswith(("--", "//")) else line for line in path.read_text().splitlines()]
 
 

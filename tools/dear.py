@@ -3,9 +3,9 @@
 
 usage: dear.py [--most N] [CRATE ..]
 
-Goes by the times of the files that a check leaves in the folders out/ of these crates, or of all: each
-file is counted from the one before it. So it holds for crates that were checked from nothing by one job,
-and for the time on the clock: what else ran then makes it longer.
+Goes by the times of the files that a check leaves in out/ of the given crates, or of all: each file is timed from the
+one before it. So the figures hold only for crates that were checked from scratch by a single job, and they are
+wall-clock time: whatever else ran then makes them longer.
 """
 
 import argparse
@@ -14,15 +14,15 @@ import re
 
 from crates import TOP, listed
 
-# Two files further apart than this, in seconds, aren't of one check.
+# Two files further apart than this, in seconds, aren't from one check.
 LONGEST = 200
 
-# The last words of a module's name, which say what part of a function's proof it is.
+# The ends of a module's name that say which part of a function's proof it is.
 PARTS = re.compile(r"\.(Answers|Code|Given|Goals|Invariants|Key|Kinds|Lts|Met|Named|Proof|Statement|Symbol|TheLink|Tie)\b.*")
 
 
 def function_of(crate, module):
-    """The function that a module is of, or what else it has."""
+    """The function that a module belongs to, or what else it holds."""
     words = re.sub(rf"^Rattle-?\.?{crate}[.-]", "", module)
     if words.startswith("below"):
         return "what stands below"

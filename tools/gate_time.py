@@ -1,17 +1,17 @@
 #!/usr/bin/env python3
-"""Runs the gate and writes what it cost, crate by crate, in seconds of processor time, to docs/GATE.md.
+"""Runs the gate and writes its cost, crate by crate, in seconds of processor time, to docs/GATE.md.
 
-Takes the commit that is checked out, in a fresh clone; what the gate printed goes to the file that is named, if one is.
-Nothing that an earlier gate proved on this machine is taken, but with --keep, which also keeps what passes for the next
-gate: the times are those of a whole gate only if nothing was kept before. Times are read from /proc twice a second, so up
-to half a second of each command is missed.
+Takes the commit that is checked out, in a fresh clone; what the gate prints goes to the log file, if one is given. What
+an earlier gate proved on this machine isn't reused, except with --keep, which also keeps what passes for the next gate:
+the times are those of a whole gate only if nothing was kept before. Times are read from /proc twice a second, so up to
+half a second of each command is missed.
 
-Processor time is no fixed measure: a processor is slower while its neighbours work, which on a virtual machine
-may be those of others. So a fixed piece of work is timed now and then, and its shortest, median and longest
-times are printed beside the table, with the minutes that the gate would have taken had that piece always taken what
-it took in the fastest measurement so far.
+Processor time isn't a fixed measure: a processor is slower while its neighbours work, and on a virtual machine these
+may be other people's. So a fixed piece of work is timed now and then, and its shortest, median and longest times are
+printed beside the table, with the minutes that the gate would have taken if that piece had always taken what it took in
+the fastest measurement so far.
 
-What the page says under a second heading is written by hand, and is kept.
+What the page says from its second heading on is written by hand, and is kept.
 """
 
 import argparse
@@ -32,10 +32,10 @@ PARTS = ("proof", "tests", "edits")
 
 TICKS = os.sysconf("SC_CLK_TCK")
 
-# Seconds between two looks at the times.
+# Seconds between readings of the times.
 INTERVAL = 0.5
 
-# Looks between two timings of the fixed piece of work.
+# Readings between timings of the fixed piece of work.
 BETWEEN = 60
 
 # The median of the fixed piece of work, in seconds, in the fastest measurement so far, which was of 140 minutes.
@@ -76,7 +76,7 @@ class Times:
                 # After the name, which may have spaces: state, parent, group, session, ..
                 fields = (process / "stat").read_text().rpartition(")")[2].split()
                 if int(fields[3]) == self.session:
-                    # A number is given again to a later process, which began at another time.
+                    # A later process may get the same id, but it began at another time.
                     begun = process.name, fields[19]
                     self.ticks[begun] = int(fields[11]) + int(fields[12])
                     if begun not in self.parts:
@@ -96,7 +96,7 @@ class Times:
 
 
 def gate(keeps):
-    """The words that run the gate, from nothing if it keeps nothing; some toolchains take what was proved unless told."""
+    """The gate's command, from scratch if it keeps nothing; some toolchains reuse proofs unless told otherwise."""
     if keeps:
         return ["rt", "ci"]
     told = subprocess.run(["rt", "help"], capture_output=True, text=True)
@@ -108,7 +108,7 @@ def row(cells):
 
 
 def table(names, sums):
-    """The seconds of each crate and of all."""
+    """The table of the seconds of each crate and of all."""
     rows = [row(["Crate", "Proof", "Tests", "Edits", "In all"]), row(["---", "---:", "---:", "---:", "---:"])]
     for name in [*names, "others"]:
         times = [sums[name, part] for part in PARTS]

@@ -3,10 +3,10 @@
 
 usage: headline.py [--check]
 
-That is the contract of `run`, and each definition of specs/ that its clause `samples` rests on, with the comment over it:
-the definitions of a file together and in their order, each file after those that it cites. Types and constants of
-the code and the words of the toolchain's library are left out. With --check nothing is printed, and the status is 1 if
-docs/HEADLINE.md has another text.
+That is the contract of `run`, and each definition of specs/ that its clause `samples` rests on, with the comment above
+it: the definitions of a file together and in order, each file after those that it cites. Types and constants of the
+code and names from the toolchain's library are left out. With --check the page isn't printed, and the status is 1 if
+docs/HEADLINE.md differs from it.
 """
 
 import argparse
@@ -61,7 +61,7 @@ WORD = re.compile(r"[^\s(){}\[\],;λ:`|∷→×≡]+")
 
 @dataclasses.dataclass
 class File:
-    """A file of definitions: the paragraphs by the name that each defines, in their order, the head of the module that each
+    """A file of definitions: its paragraphs in order, by the name that each defines, the head of the module that each
     stands in, and what its imports name."""
 
     paragraphs: dict
@@ -96,7 +96,7 @@ class File:
 
 
 def imports(line):
-    """What a line imports: names with their definitions, and another name of a whole file."""
+    """What a line imports: names with their definitions, and an alias of a whole file."""
     used = USE.match(line)
     if not used:
         return {}, {}
@@ -144,7 +144,7 @@ def all_files():
 
 
 def needed(files):
-    """The definitions that the roots rest on, by their files, each file after those that it cites."""
+    """The definitions that the roots rest on, grouped by file, each file after those that it cites."""
     found, order = {}, []
     ahead = [*ROOTS]
     while ahead:
@@ -170,7 +170,7 @@ def needed(files):
 
 
 def contract():
-    """The signature and the clauses of the call, with no body."""
+    """The signature and the clauses of the call, without the body."""
     text = (TOP / CALL).read_text()
     return re.search(r"^pub fn run\(.*?(?=^\{)", text, re.M | re.S).group().rstrip()
 

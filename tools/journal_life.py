@@ -1,7 +1,7 @@
 #!/usr/bin/env python3
-"""Writes the journal of a node that takes made-up samples, by the model of docs/FORMATS.md (journal_model.py).
+"""Writes the journal of a node that takes made-up samples, with the model of docs/FORMATS.md (journal_model.py).
 
-usage: journal_life.py DIR [SEED [SAMPLES]]     the files of a journal of so many samples, 1,000 if missing
+usage: journal_life.py DIR [SEED [SAMPLES]]     the files of a journal of this many samples, 1,000 by default
 """
 
 import pathlib
@@ -25,7 +25,7 @@ class Node:
         self.changed = set()
 
     def begin(self, origin):
-        """Goes on under an origin that wasn't used."""
+        """Goes on under an unused origin."""
         self.origin = origin
         self.next = 1
 
@@ -53,7 +53,7 @@ class Node:
             del self.cells[name]
 
     def changes(self):
-        """The cells that changed and are live still, by key and archive; from here on none has changed."""
+        """Takes the changed cells that are still live, by key and archive; from then on none counts as changed."""
         groups = {}
         for name in sorted(self.changed & self.cells.keys()):
             groups.setdefault(name[:2], []).append(self.cells[name])
@@ -62,7 +62,7 @@ class Node:
 
 
 def with_sample(cell, mask, number, time, value):
-    """A cell with a sample more, which counts as the last one unless a later one was there."""
+    """A cell with one more sample, which counts as the last one unless a later one was there."""
     return cell._replace(
         version=number,
         count=cell.count + 1,
@@ -88,13 +88,13 @@ KEYS = [
 ID = bytes(range(16))
 PEER_ID = bytes(range(255, 239, -1))
 
-# How many samples are taken at most between two writes, and how many groups a record has at most.
+# The most samples taken between two writes, and the most groups in a record.
 MOST_AT_ONCE = 20
 MOST_GROUPS = 8
 
 
 def taken(rng, node, peers):
-    """Lets the node take a sample, or a cell of a peer that takes samples too; says whether it was a cell."""
+    """Lets the node and a peer take a sample each, and sometimes the node a cell of the peer; returns whether so."""
     peer = rng.choice(peers)
     for one in (node, peer):
         hour = BILLION * 3_600
@@ -107,7 +107,7 @@ def taken(rng, node, peers):
 
 
 def batches(seed, samples):
-    """The records of a node's life, in which it takes so many samples, a batch for each write."""
+    """The records of a life in which a node takes this many samples, a batch for each write."""
     rng = random.Random(seed)
     node = Node(SCHEMA, 1_001)
     peers = [Node(SCHEMA, 2_001), Node(SCHEMA, 2_002), Node(SCHEMA, 65_535)]
@@ -130,7 +130,7 @@ def batches(seed, samples):
 
 
 def appended(cursor, records):
-    """The bytes of a batch behind a place, and the place behind it."""
+    """The bytes of a batch that follows a cursor, and the cursor after it."""
     text = bytearray()
     for number, record in enumerate(records):
         record = record._replace(kind=record.kind + (FIRST if number == 0 else 0))
@@ -140,7 +140,7 @@ def appended(cursor, records):
 
 
 def journal(seed, samples):
-    """The files of a journal by their names: the second begins where the first has half of the batches."""
+    """The files of a journal by name: the second begins once the first has half of the batches."""
     cursor = Cursor(ID, 0, START_DIGEST)
     files = {}
     life = list(batches(seed, samples))
@@ -154,7 +154,7 @@ def journal(seed, samples):
 
 
 def numbers(words):
-    """The seed, and how many samples there are."""
+    """The seed and the number of samples."""
     given = [int(word) for word in words]
     return (*given, *(1, 1_000)[len(given) :])
 

@@ -1,10 +1,10 @@
 #!/usr/bin/env python3
-"""A journal as docs/FORMATS.md has it, from a header to the directory of a node, but for checkpoints.
+"""A journal as docs/FORMATS.md describes it, from a header to the directory of a node, without checkpoints.
 
 usage: journal_model.py cells DIR     what `rr journal cells DIR` is to print of such files
-       journal_model.py case FILE     what a case of the ending .journal is to print
+       journal_model.py case FILE     what a .journal case is to print
 
-It shares no code with `rr`, so that what the two say of the same bytes can be compared: tools/sweep_journal.py does.
+It shares no code with `rr`, so tools/sweep_journal.py can compare what the two say about the same bytes.
 """
 
 import csv
@@ -24,7 +24,7 @@ DECIMALS = 0
 DIGEST_LEN = 8
 START_DIGEST = bytes(DIGEST_LEN)
 
-# Where the length of the schema stands in a header.
+# The offset of the schema's length in a header.
 LENGTH_AT = 6
 
 # The head of a record: the length of its body, and its kind.
@@ -65,7 +65,7 @@ def undigested(record):
 
 
 def link(before, record):
-    """The digest of a record, by that of the one before it."""
+    """The digest of a record, from that of the one before it."""
     return digest(before + undigested(record))
 
 
@@ -73,7 +73,7 @@ def link(before, record):
 
 
 def names_of(text, specials):
-    """The escaped name at the beginning of a text, and what follows it, from the first special byte on."""
+    """The name at the beginning of a text, unescaped, and the rest, from the first special byte on."""
     at = 0
     name = bytearray()
     while at < len(text) and text[at] not in specials:
@@ -140,7 +140,7 @@ def cells_in(groups):
 
 @functools.cache
 def meaning(schema, record):
-    """What a record means: the name of its kind, and what it has."""
+    """What a record means: the name of its kind, and what it holds."""
     text = Input(record.body)
     kind = record.kind % FIRST
     if kind == CELLS:
@@ -184,7 +184,7 @@ def read_header(schema, text):
 
 
 def read_record(text, cursor):
-    """The record at a place, if a whole one is there that chains."""
+    """The record at a cursor, if a whole one that chains to it is there."""
     begin = text.at
     try:
         length, kind = HEAD.unpack(text.take(HEAD.size))
@@ -199,7 +199,7 @@ def read_record(text, cursor):
 
 
 def read_records(text, cursor):
-    """The records at a place, why no more follows, and the place behind them."""
+    """The records from a cursor on, why no more follow, and the cursor after them."""
     records = []
     while (record := read_record(text, cursor)) is not None:
         records.append(record)
@@ -223,7 +223,7 @@ def is_live(schema, newest, cell):
 
 
 def joined(schema, cells):
-    """Of each name the greatest, and of these the live ones, by their names in order."""
+    """Of the greatest cells of each name the live ones, in order of their names."""
     greatest = {}
     newest = {}
     for cell in cells:
@@ -236,7 +236,7 @@ def joined(schema, cells):
 
 
 def rows(cells):
-    """The records of CSV of cells."""
+    """The CSV records of cells."""
     for cell in cells:
         yield [cell.key.decode("latin-1"), *cell[1:-1], f"{cell.mask:032x}"]
 
@@ -247,7 +247,7 @@ def csv_text(cells):
     return text.getvalue().encode("latin-1")
 
 
-# ---- a directory of files of a journal, without a checkpoint
+# ---- a directory of journal files, without a checkpoint
 
 
 def file_name(offset):
@@ -255,14 +255,14 @@ def file_name(offset):
 
 
 class Refused(Exception):
-    """A node doesn't start from a directory: its text is the line that says so."""
+    """A node doesn't start from a directory; its text is the line that says so."""
 
     def __init__(self, name, why):
         super().__init__(f"refused {name} {why}\n")
 
 
 class Reading(typing.NamedTuple):
-    """What is read of a file's bytes."""
+    """What is read from a file's bytes."""
 
     begins: Cursor
     records: list
@@ -277,7 +277,7 @@ def read_file(schema, data):
 
 
 def why_apart(before, begins):
-    """Why a file that begins at a place doesn't follow one that ends at another; nothing where it does."""
+    """Why a file that begins at one cursor doesn't follow one that ends at another; none if it does."""
     if begins.id != before.id:
         return "OtherJournal"
     if begins.offset > before.offset:
@@ -286,7 +286,7 @@ def why_apart(before, begins):
 
 
 def why_refused(schema, name, reading, before, is_last):
-    """Why a node doesn't start from a file behind a place; nothing where it does."""
+    """Why a node doesn't start from a file that comes after a cursor; none if it does."""
     if name != file_name(reading.begins.offset):
         return "Misnamed"
     if apart := why_apart(before, reading.begins):
@@ -299,7 +299,7 @@ def why_refused(schema, name, reading, before, is_last):
 
 
 def read_files(schema, files):
-    """What is read of files, by their names, as a start reads them."""
+    """What a start reads from files, given by name."""
     readings = []
     for number, name in enumerate(sorted(files)):
         try:
@@ -324,12 +324,12 @@ def cells_of(schema, readings):
     return joined(schema, cells)
 
 
-# The schema where the header of the first file has none.
+# The schema if the first file's header has none.
 NO_SCHEMA = Schema(1, (Archive(1, 1, 0, 1),))
 
 
 def schema_in(data):
-    """The schema that a header has, whatever else it has."""
+    """The schema in a header, whatever else is there."""
     length = int.from_bytes(data[LENGTH_AT : LENGTH_AT + 2], "big")
     layout = data[LENGTH_AT + 2 : LENGTH_AT + 2 + length]
     if len(layout) < STEP.size or (len(layout) - STEP.size) % ARCHIVE.size:
@@ -340,7 +340,7 @@ def schema_in(data):
 
 
 def started(files):
-    """The schema of files, by their names, and what is read of them."""
+    """The schema of files, given by name, and what is read from them."""
     schema = schema_in(files[min(files)])
     return schema, read_files(schema, files)
 
@@ -349,7 +349,7 @@ def read_directory(folder):
     return {file.name: file.read_bytes() for file in pathlib.Path(folder).glob("journal-*.rrj")}
 
 
-# ---- a case: what `rr_cases` says of the changed bytes of a file (crates/rr_cases/src/journals.rt)
+# ---- a case: what `rr_cases` says about the changed bytes of a file (crates/rr_cases/src/journals.rt)
 
 CASE_SCHEMA = Schema(60, (Archive(1, 3, 0, 1),))
 

@@ -1,6 +1,6 @@
 #!/bin/sh
-# Lays out the files of each crate by `rt fmt`, which says what it changed. The gate refuses a crate that
-# has a file in another layout.
+# Formats the files of each crate with `rt fmt`, which says what it changed. The gate refuses a crate with a file in any
+# other layout.
 set -eu
 
 root=$(CDPATH='' cd -- "$(dirname -- "$0")/.." && pwd -P)

@@ -1,9 +1,10 @@
 #!/usr/bin/env python3
-"""How long the gate that docs/GATE.md tells of would have taken in the hour of an earlier measurement.
+"""Says how long the gate of docs/GATE.md would have taken under the conditions of an earlier measurement.
 
-Processors aren't as fast in each hour, but what didn't change between the two is the same work: the proof or the tests
-of a crate by its code, definitions and proofs, its edits by these and their files. What changed in the crates below is
-left out of account. So the seconds of now are divided by how many times as long the same work takes now.
+Processors aren't equally fast at all times, but what didn't change between the two is the same work: the proof or the
+tests of a crate if its code, definitions and proofs are the same, its edits if their files are too. Changes in the
+crates below are left out of account. So the seconds measured now are divided by how many times as long the same work
+takes now.
 """
 
 import argparse
@@ -15,7 +16,7 @@ from crates import TOP, listed
 
 PAGE = "docs/GATE.md"
 
-# The folders of a crate that each part of its row is made from.
+# The folders of a crate that each part of its row depends on.
 FOLDERS = {
     "proof": ["src", "specs", "proofs"],
     "tests": ["src", "specs", "proofs"],
@@ -30,13 +31,13 @@ def git(*words):
 
 
 def commit_of(page):
-    """The commit that a page tells of."""
+    """The commit that a page reports on."""
     found = re.search(r"\bof\s+([0-9a-f]{7,8})\b", page)
     return found[1] if found else None
 
 
 def page_of(commit):
-    """The last page that told of a commit."""
+    """The last page that reported on a commit."""
     for change in git("log", "--format=%h", "--", PAGE).split():
         page = git("show", f"{change}:{PAGE}")
         if commit_of(page) == commit:
@@ -45,7 +46,7 @@ def page_of(commit):
 
 
 def seconds_of(page):
-    """The seconds of each part of each crate, and of what names none."""
+    """The seconds of each part of each crate, and of what names no crate."""
     rows = {(name, part): int(it) for name, *its in ROW.findall(page) for part, it in zip(FOLDERS, its)}
     return {row: seconds for row, seconds in rows.items() if row[0] != "all"}
 

@@ -1,4 +1,4 @@
-"""Packed cells as docs/FORMATS.md has them: numbers, cells, and the text of those of one archive of one key."""
+"""Packed cells as docs/FORMATS.md describes them: numbers, cells, and the bytes of the cells of one key and archive."""
 
 import struct
 import typing
@@ -7,14 +7,14 @@ MOST_NUMBER = 1 << 40
 BILLION = 10**9
 WORD = 1 << 128
 
-# The step of a schema and how many archives it has, and one of them.
+# The step of a schema with its number of archives, and one archive.
 STEP = struct.Struct(">IB")
 ARCHIVE = struct.Struct(">BIHH")
 
-# How many origins are kept of those that were seen last.
+# How many of the origins that were seen last are kept.
 RECENT = 16
 
-# The flags of a packed cell, from the lowest on.
+# The flags of a packed cell, lowest first.
 STEPS = "last_value version last_time min max sum count mask slot place origin".split()
 
 
@@ -45,7 +45,7 @@ class Cell(typing.NamedTuple):
         return self[4:]
 
 
-# What is expected where no cell of the origin came before.
+# What is expected if no cell of the origin came before.
 NOTHING = Cell(b"", 0, 0, 0, 0, 1, 0, 0, 0, 0, 0, 1)
 
 
@@ -109,7 +109,7 @@ def stepped(expected, step):
 
 
 def signed(number):
-    """A number of 128 bits as its two's complement has it."""
+    """A number of 128 bits, read as two's complement."""
     return number - WORD if number >= WORD // 2 else number
 
 
@@ -153,7 +153,7 @@ class Input:
 
 
 class Expectations:
-    """The last cells of the origins that were seen last, and what is expected of the next cell."""
+    """The last cell of each origin that was seen recently, and what is expected of the next cell."""
 
     def __init__(self, row):
         self.row = row
@@ -165,7 +165,7 @@ class Expectations:
         return found[0] if found else len(self.recent)
 
     def base(self, place):
-        """The last cell of the origin at a place, and by how much its version was greater than the one before."""
+        """The last cell of the origin at a place, and by how much its version exceeded the one before."""
         return self.recent[place] if place < len(self.recent) else (NOTHING, 0)
 
     def saw(self, cell, place):
@@ -178,7 +178,7 @@ class Expectations:
 
 
 def pack(cells, row):
-    """The text of cells of one archive of one key, in order, of rows of so many nanoseconds."""
+    """The bytes of the cells of one key and archive, in order, with rows of this many nanoseconds."""
     text = [leb128(len(cells)), leb128(row)]
     seen = Expectations(row)
     for cell in cells:
@@ -196,7 +196,7 @@ def pack(cells, row):
 
 
 def expected_fields(base, stride, row, fields):
-    """Each field with what is expected of it; what another field decides is asked for when that is known."""
+    """Each field with what is expected of it; one that depends on another comes once `fields` has that."""
     yield "slot", base.slot + 1
     yield "origin", base.origin
     yield "count", base.count
@@ -215,7 +215,7 @@ UNSIGNED = {"origin": 16, "version": 64, "count": 64, "mask": 128}
 
 
 def in_range(name, number):
-    """A field of 128 bits, as it is if it's in its range."""
+    """The value of a field read as 128 bits, if it's in the field's range."""
     if name in UNSIGNED:
         if number >= 1 << UNSIGNED[name]:
             raise Fault("BadNumber")
@@ -240,7 +240,7 @@ def read_steps(text):
 
 
 def read_cell(text, seen):
-    """The next cell, of no key and archive."""
+    """The next cell, without key and archive."""
     steps = read_steps(text)
     place = stepped(seen.place, steps["place"])
     if place > len(seen.recent):
@@ -259,7 +259,7 @@ def read_cell(text, seen):
 
 
 def is_valid(schema, cell):
-    """Whether samples of the cell's row can have these numbers."""
+    """Whether samples in the cell's row can give these numbers."""
     archive = schema.archives[cell.archive]
     return (
         1 <= cell.count <= cell.version <= MOST_NUMBER

@@ -1,11 +1,11 @@
 #!/usr/bin/env python3
-"""Prints the constants that definitions or contracts cite and that no proof pins.
+"""Prints the constants that definitions or contracts cite but no proof pins.
 
 usage: pins.py
 
-A definition that cites a constant of the code changes its meaning with it, and what is proved by it stays proved.
-So beside each such constant stands `const _: () = prove!(NAME == NUMBER);`, with the number in digits, or such a line
-for each number of a struct. Prints a line for each that lacks it, FILE: NAME, and then ends with status 1.
+A definition that cites a constant of the code changes its meaning with it, while what is proved about it stays proved.
+So each such constant has beside it `const _: () = prove!(NAME == NUMBER);`, with the number in digits, or such a line
+for each number of a struct. Prints a line FILE: NAME for each constant that lacks it, and then ends with status 1.
 """
 
 import re
@@ -13,15 +13,15 @@ import sys
 
 from crates import TOP
 
-# A module of the constants of a source file, and which of them a file cites.
+# The module of a source file's constants, and those that a file cites.
 CITED = re.compile(r"Rattle\.(\w+)\.specs\.declared\.([\w.]+)\.TheConstants\.\{([^}]*)\}")
 
-# A constant, or a number in it, pinned.
+# The pin of a constant, or of a number in it.
 PIN = re.compile(r"const _: \(\) = prove!\((\w+)[\w.]* == -?[\d_]+\);")
 
 
 def citing():
-    """The files in which definitions and contracts stand."""
+    """The files with definitions and contracts."""
     yield from TOP.glob("crates/*/specs/**/*.antt")
     yield from TOP.glob("crates/*/src/**/*.rt")
 

@@ -1,17 +1,18 @@
 #!/usr/bin/env python3
-"""Refuses each growth of the built program in turn, and compares each run with one that was refused nothing.
+"""Refuses each growth of the built program in turn, and compares each run with one that is refused nothing.
 
 usage: refuse.py PROGRAM [WHAT ..]
 
-PROGRAM is the built program, crates/rr_tool/out/rr_tool. WHAT is `calls`, `scripts`, `lines` or `node`; all of them, if
-missing. Of scripts and lines those of the cases are run, and a node serves one round, or without end (refuse_node.py).
-A growth is refused alone, and then with all after it, by a library that stands before the C library's (refuse.c).
+PROGRAM is the built program, crates/rr_tool/out/rr_tool. WHAT is `calls`, `scripts`, `lines` or `node`; all of them by
+default. Scripts and lines are those of the cases, and a node serves one round, or without end (refuse_node.py). Each
+growth is refused alone, and then with all after it, by a library that is loaded before the C library (refuse.c).
 
-A run has to end as without, or with status 3, `rr: out of memory` as the one line on standard error and a front of the
-output; of a script nothing. The calls are those of the cases: their program, crates/rr_cases/out/rr_cases, asks the
-library itself for each growth of a call, compares what stands then, and has to end with status 0.
+A run has to end as without a refusal, or with status 3, `rr: out of memory` as the only line on standard error and a
+prefix of the output, which is empty for a script. The calls are those of the cases: their program,
+crates/rr_cases/out/rr_cases, asks the library itself to refuse each growth of a call, compares what stands then, and
+has to end with status 0.
 
-Prints how many growths were refused, and ends with status 1 where a run ended in another way or nothing was refused. It
+Prints how many growths were refused, and ends with status 1 if a run ended in another way or nothing was refused. It
 takes about a quarter of an hour on four cores.
 """
 
@@ -40,13 +41,13 @@ KINDS = {"calls", "scripts", "lines", "node"}
 # Bytes that are shown of a wrong output.
 MOST_PRINTED = 200
 
-# Seconds that a run may take, and the program of the cases.
+# Seconds that a run may take, and that the program of the cases may.
 LONGEST = 20
 LONGEST_OF_CASES = 1200
 
 
 class Refuser:
-    """The library that refuses growths, built in a folder, and the runs that it was loaded for."""
+    """The library that refuses growths, built in a folder, and the environments of runs with it."""
 
     def __init__(self, folder):
         self.library = folder / "refuse.so"
@@ -54,7 +55,7 @@ class Refuser:
         subprocess.run(["cc", "-O2", "-Wall", "-fPIC", "-shared", "-o", self.library, source], check=True)
 
     def environment(self, log, nth, goes_on):
-        """The environment of a run whose growth of this number is refused, and those after it if it goes on; of 0 none."""
+        """The environment of a run whose nth growth is refused, and those after it if it goes on; for 0, none is."""
         words = {"PATH": os.environ["PATH"], "LD_PRELOAD": str(self.library), "REFUSE_LOG": str(log)}
         if nth:
             words["REFUSE_NTH"] = str(nth)
@@ -69,7 +70,7 @@ def growths(log):
 
 
 class Case(typing.NamedTuple):
-    """The words after `rr` and the input of a run, and whether a front of its output may be written."""
+    """The words after `rr` and the input of a run, and whether it may write a prefix of its output."""
 
     name: str
     words: list
@@ -78,7 +79,7 @@ class Case(typing.NamedTuple):
 
 
 class Ran(typing.NamedTuple):
-    """How a run ended, and how many growths it made and was refused."""
+    """How a run ended, how many growths it made, and how many of these were refused."""
 
     ended: tuple
     made: int
@@ -104,7 +105,7 @@ def run(program, refuser, case, nth=0, goes_on=False):
 
 
 def is_right(case, whole, ended):
-    """Whether a run ended as it may."""
+    """Whether a run ended in an allowed way."""
     if ended == whole:
         return True
     *how, output = ended
@@ -112,7 +113,7 @@ def is_right(case, whole, ended):
 
 
 def try_case(program, refuser, case, goes_on):
-    """Refuses each growth of a case: how many were refused, how many runs ended as without, and those that ended wrong."""
+    """Refuses each growth of a case: how many were refused, how many runs ended as without, and the wrong ones."""
     whole = run(program, refuser, case)
     refused, alike, wrong = 0, 0, []
     for nth in range(1, whole.made + 1):
@@ -127,7 +128,7 @@ def try_case(program, refuser, case, goes_on):
 
 
 def scripts():
-    """The scripts of the cases."""
+    """The scripts of the cases, but for those that are run more than once."""
     for file in sorted(DATA.rglob("*.rr")):
         text = file.read_bytes()
         if b"{" not in text:
@@ -135,7 +136,7 @@ def scripts():
 
 
 def lines():
-    """The lines of the cases, where streams have no limits."""
+    """The lines of those cases whose streams have no limits."""
     for file in sorted(DATA.rglob("*.lines")):
         text = file.read_bytes()
         first, _, rest = text.partition(b"\n")
@@ -146,7 +147,7 @@ def lines():
 
 
 def try_cases(program, refuser, what, cases):
-    """Refuses each growth of some cases, and says what came of it. Answers whether all is well."""
+    """Refuses each growth of some cases, and prints the outcome. Returns whether all is well."""
     total = collections.Counter()
     wrong = []
     with concurrent.futures.ThreadPoolExecutor(os.cpu_count()) as pool:
@@ -164,7 +165,7 @@ def try_cases(program, refuser, what, cases):
 
 
 def try_calls(refuser, folder):
-    """Runs the program of the cases, which refuses each growth of their calls, and answers whether all is well."""
+    """Runs the program of the cases, which refuses each growth of their calls. Returns whether all is well."""
     program = CASES / "out/rr_cases"
     if not program.exists():
         print(f"calls: there is no {program}; `rt run` in {CASES} builds it")

@@ -1,9 +1,9 @@
-"""A node that serves while growths are refused (refuse.py): one round, or without end.
+"""A node that serves while growths are refused (refuse.py), for one round or without end.
 
-It is sent lines, pulls a cell from a peer, saves, answers fetches, and gives to a peer that pulls. It may end with any of
-these undone. But each answer is a front of one that a node gives which was refused nothing, with the lines and the
-peer's cell or without either; so is the snapshot, or it is the last one; and the last line on standard error says that
-memory ran out exactly where the status does.
+It is sent lines, pulls a cell from a peer, saves, answers fetches, and gives to a peer that pulls. It may end with any
+of these undone. But each answer has to be a prefix of one from a node that was refused nothing, with or without the
+lines and with or without the peer's cell; the snapshot has to be that of such a node, or the last one; and the last
+line on standard error has to say that memory ran out exactly if the status does.
 
 A node without end may go on only where its keeper and its reader both do: it takes a further line connection and
 answers a further fetch, and is then stopped. Else it has to end by itself, as memory ran out on one of its threads.
@@ -26,11 +26,11 @@ import typing
 # Nodes that are tried side by side: each waits more than it works.
 BESIDE = 2 * (os.cpu_count() or 1)
 
-# Seconds that a connection may be silent, of the node and of whoever calls it, and that a node may take to end.
+# Seconds that a connection may be silent, for the node and for its callers, and that a node may take to end.
 IDLE = 5
 LONGEST = 20
 
-# The rounds that a node keeps, and the connections that its reader takes: of one round, and of a node without end.
+# The rounds that a node keeps, and the connections that its reader takes: for one round, and without end.
 ONE_ROUND = (1, 2)
 ENDLESS = (0, 0)
 
@@ -55,7 +55,7 @@ xff_den = 1
 # The report of an empty line connection.
 NO_LINES = b"points 0 samples 0 refused 0\n"
 
-# What the snapshot's file has before the node saves.
+# What the snapshot file holds before the node saves.
 LAST = b"the last one"
 
 LINES = b"""\
@@ -70,7 +70,7 @@ m v=2i 60000000001
 
 FETCHES = b"fetch LAST 60 0 120 m v\nfetch MEDIAN 60 0 60 m v\nfetch MIN 60 0 120 w,host=a in\n"
 
-# What a side of this schema sends that holds nothing, and what one replies that holds 7 of origin 1 at the first minute.
+# What a side with this schema sends if it holds nothing, and replies if it holds 7 of origin 1 in the first minute.
 ASKS = bytes.fromhex("0000000f 01 0000003c 01 01 00000003 0000 0001 00000001 03")
 PAGE = bytes.fromhex(
     "52525047 01 0000003c 01 01 00000003 0000 0001 0001 0003 6d2076 00 0000000000000001 0001 0000000000000001"
@@ -80,14 +80,14 @@ PAGE = bytes.fromhex(
 REPLIES = struct.pack(">IB", len(PAGE) + 1, 4) + PAGE + bytes.fromhex("00000001 05")
 NAMES_END = bytes.fromhex("00000001 03")
 
-# What a node says of a peer and a save where memory is refused below them, or where the node ends meanwhile.
+# What a node says about a peer and a save when memory is refused below them, or when the node ends meanwhile.
 FAILURES = {"peer 1: BadAddress", "peer 1: ReadFailed", "peer 1: WriteFailed", "save: WriteFailed"}
 OUT_OF_MEMORY = "rr: out of memory"
 
-# Why, in a line before.
+# The reason, in a line before.
 REASON = re.compile(r"rr: (saved\.new|127\.0\.0\.1:\d+): .+")
 
-# What a node says as it begins, since it replaces a snapshot that it doesn't begin with.
+# What a node says as it starts, since it will replace a snapshot that it doesn't load.
 REPLACED = "rr: saved: will be replaced: no --load"
 
 # What it says if it can't listen, and how often it is then tried with other ports.
@@ -99,8 +99,8 @@ BESIDE_SAVED = "saved.new"
 
 
 class Served(typing.NamedTuple):
-    """How a node ended, or that it was stopped, what it said on standard error, what it answered to lines, to fetches and
-    to a peer, its snapshot, the files that it left beside, and how many growths it made and was refused."""
+    """How a node ended, whether it was stopped, what it said on standard error, what it answered to lines, to fetches
+    and to a peer, its snapshot, the files that it left beside that, and how many growths it made and was refused."""
 
     status: int
     stopped: bool
@@ -122,7 +122,7 @@ def free_ports(count):
 
 
 def ask(port, text):
-    """What is answered to a text on a connection of its own, up to where it ends or fails."""
+    """The answer to a text on a connection of its own, up to where that ends or fails."""
     answer = b""
     try:
         with socket.create_connection(("127.0.0.1", port), timeout=IDLE) as stream:
@@ -136,7 +136,7 @@ def ask(port, text):
 
 
 def reply(listener):
-    """Gives its cell to each side that pulls, until the listener is closed."""
+    """Gives the peer's cell to each side that pulls, until the listener is closed."""
     while True:
         try:
             stream, _ = listener.accept()
@@ -161,14 +161,14 @@ def listens(ports):
 
 
 def wait_until(is_so, seconds):
-    """Waits until something is so, at most for some seconds."""
+    """Waits until a condition holds, for this many seconds at most."""
     end = time.monotonic() + seconds
     while not is_so() and time.monotonic() < end:
         time.sleep(0.002)
 
 
 def use(node, ports, saved, lines):
-    """Uses a node that has begun to listen: its answers to lines, to fetches after it has saved, and to a peer."""
+    """Uses a node once it listens; returns its answers to lines, to fetches after it has saved, and to a peer."""
     wait_until(lambda: node.poll() is not None or listens(ports), LONGEST)
     if node.poll() is not None:
         return []
@@ -178,12 +178,12 @@ def use(node, ports, saved, lines):
 
 
 def goes_on(node, ports):
-    """Whether each thread of a node does its work still."""
+    """Whether each thread of a node still does its work."""
     return node.poll() is None and ask(ports[0], b"") == NO_LINES and ask(ports[1], FETCHES).endswith(b"\n\n")
 
 
 def is_closed(port):
-    """Whether a connection is ended at once and unanswered, as one is for which there is no memory."""
+    """Whether a connection is ended at once without an answer, as one is if there is no memory for it."""
     try:
         with socket.create_connection(("127.0.0.1", port), timeout=IDLE) as stream:
             return stream.recv(1) == b""
@@ -194,12 +194,12 @@ def is_closed(port):
 
 
 def lives_on(node, ports):
-    """Whether a node takes connections still, and none of its threads holds one."""
+    """Whether a node still takes connections, and none of its threads holds one."""
     return node.poll() is None and all(is_closed(port) for port in ports[:2]) and node.poll() is None
 
 
 def serve(*how, **more):
-    """Has a node serve; again, with other ports, if another program took one of its ports meanwhile."""
+    """Has a node serve, and again with other ports if another program took one of its ports meanwhile."""
     for _ in range(TRIES):
         it = serve_once(*how, **more)
         if BAD_ADDRESS not in it.errors:
@@ -230,7 +230,7 @@ def serve_once(program, refuser, limits, nth=0, and_on=False, lines=LINES, has_p
             text=True,
         )
         answers = use(node, ports, saved, lines)
-        # The growth that is refused may be one of a connection that asks whether the node goes on: it is asked again.
+        # The refused growth may belong to a connection that asks whether the node goes on, so it is asked again.
         if limits == ENDLESS and (goes_on(node, ports) or goes_on(node, ports) or lives_on(node, ports)):
             node.terminate()
         try:
@@ -245,8 +245,8 @@ def serve_once(program, refuser, limits, nth=0, and_on=False, lines=LINES, has_p
 
 
 def faults(it, wholes, and_on):
-    """What is wrong about a node that was refused a growth, and those after it if so asked, beside those that were
-    refused nothing."""
+    """What is wrong with a node that was refused a growth, and with `and_on` also those after it, compared with nodes
+    that were refused nothing."""
     ended = it.errors[-1:] == [OUT_OF_MEMORY]
     if it.status != (3 if ended and not it.stopped else wholes[0].status):
         yield f"status {it.status}"
@@ -265,7 +265,7 @@ def faults(it, wholes, and_on):
 
 
 def try_limits(program, refuser, limits, what):
-    """Refuses each growth of a node with these limits, and says what came of it. Answers whether all is well."""
+    """Refuses each growth of a node with these limits, and prints the outcome. Returns whether all is well."""
     whole = serve(program, refuser, limits)
     wholes = [whole] + [
         serve(program, refuser, limits, lines=lines, has_peer=has_peer)
@@ -287,6 +287,6 @@ def try_limits(program, refuser, limits, what):
 
 
 def try_node(program, refuser):
-    """Refuses each growth of a node of one round, and of one without end. Answers whether all is well."""
+    """Refuses each growth of a node of one round, and of one without end. Returns whether all is well."""
     is_well = try_limits(program, refuser, ONE_ROUND, "node")
     return try_limits(program, refuser, ENDLESS, "endless node") and is_well

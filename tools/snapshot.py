@@ -1,11 +1,11 @@
 #!/usr/bin/env python3
-"""Looks into a snapshot that `rr serve --save` wrote.
+"""Inspects a snapshot that `rr serve --save` wrote.
 
 usage: rr-snapshot check FILE     its schema, origin and number of cells; status 1 if its digest is wrong
-       rr-snapshot series FILE    a line a series: key, number of cells, time of the last sample in seconds
-       rr-snapshot cells FILE     a record of CSV a cell
+       rr-snapshot series FILE    a line for each series: key, number of cells, time of the last sample in seconds
+       rr-snapshot cells FILE     a CSV record for each cell
 
-The bytes are those of docs/FORMATS.md, "Snapshot", in both versions.
+The format is that of docs/FORMATS.md, "Snapshot", in both versions.
 """
 
 import csv
@@ -24,7 +24,7 @@ DIGEST_LEN = 32
 # min, max, last time, last value.
 FIELDS = struct.Struct(">BqHQQqQqqqq")
 
-# The bytes of a mask in each version.
+# The length of a mask in each version, in bytes.
 MASK_LEN = {1: 8, 2: 16}
 
 COLUMNS = (
@@ -33,7 +33,7 @@ COLUMNS = (
 
 
 def read(path):
-    """The schema in the words of a script, the origin, the number of cells and the cells of a snapshot."""
+    """The schema of a snapshot in the words of a script, its origin, its number of cells, and its cells."""
     data = pathlib.Path(path).read_bytes()
     body, digest = data[:-DIGEST_LEN], data[-DIGEST_LEN:]
     if body[:4] != b"RRSN" or hashlib.sha256(body).digest() != digest:

@@ -1,16 +1,16 @@
 #!/usr/bin/env python3
-"""Cuts a journal at each of its bytes, changes each of them, and compares what the built program reads of each with a
-model that shares no code with it (journal_model.py).
+"""Cuts a journal at each of its bytes, changes each of them, and compares what the built program reads from each result
+with a model that shares no code with it (journal_model.py).
 
 usage: sweep_journal.py PROGRAM [SEED [SAMPLES]]
 
-PROGRAM is the built program, crates/rr_tool/out/rr_tool. The journal is of a node that took SAMPLES samples, 1,000 if
-missing, of several series, archives and origins, with cells of its peers between, and was started again a few times. It
-has two files: the first is cut and changed alone, and with the second behind it, and so is the second behind the first.
-`rr journal cells DIR` has to print what the model does: the cells, with status 0, or the line that refuses the
+PROGRAM is the built program, crates/rr_tool/out/rr_tool. The journal is that of a node that took SAMPLES samples, 1,000
+by default, of several series, archives and origins, with cells of its peers in between, and was restarted a few times.
+It has two files: the first is cut and changed alone, and with the second after it, and so is the second, after the
+first. `rr journal cells DIR` has to print what the model does: the cells, with status 0, or the line that refuses the
 directory, with status 1.
 
-Prints how many were tried, and ends with status 1 where one was read in another way. Of 1,000 samples these are about
+Prints how many were tried, and ends with status 1 if one was read differently. With 1,000 samples there are about
 230,000, each a run of the program.
 """
 
@@ -26,7 +26,7 @@ import tempfile
 import journal_life
 import journal_model as model
 
-# How many bytes a worker tries in a row, and how many wrong ones are printed.
+# How many bytes a worker tries in a row, and how many wrong ones are printed at most.
 PIECE = 500
 MOST_PRINTED = 5
 
@@ -39,7 +39,7 @@ def cut(data, at):
 
 
 def changed(data, at):
-    """The bytes with another one at a place, which is the same in each run."""
+    """The bytes with another one at a place, the same one in each run."""
     return data[:at] + bytes([data[at] ^ random.Random(at).randrange(1, 256)]) + data[at + 1 :]
 
 
@@ -47,7 +47,7 @@ WAYS = {"cut": cut, "changed": changed}
 
 
 class Sweep:
-    """The files of a directory, of which one is cut and changed."""
+    """The files of a directory, one of which is cut and changed."""
 
     def __init__(self, program, files, name):
         self.program = program
@@ -56,13 +56,13 @@ class Sweep:
 
     @functools.cache
     def text(self, *counts):
-        """What is printed where so many records of each file are read."""
+        """What is printed if this many records of each file are read."""
         schema, readings = model.started(self.files)
         short = [reading._replace(records=reading.records[:count]) for reading, count in zip(readings, counts)]
         return model.csv_text(model.cells_of(schema, short))
 
     def wanted(self, files):
-        """The status with which the program is to end, and what it is to print."""
+        """The status that the program has to end with, and what it has to print."""
         try:
             _, readings = model.started(files)
         except model.Refused as refused:
@@ -75,7 +75,7 @@ class Sweep:
         return ran.returncode, ran.stdout
 
     def try_piece(self, way, places):
-        """The places whose change is read in another way than the model does."""
+        """The places whose change the program reads differently from the model."""
         wrong = []
         with tempfile.TemporaryDirectory() as made:
             folder = pathlib.Path(made)
@@ -89,7 +89,7 @@ class Sweep:
         return wrong
 
     def run(self, pool):
-        """How many journals were tried, and how many were read in another way."""
+        """How many journals were tried, and how many were read differently."""
         length = len(self.files[self.name])
         wrong = 0
         for way in WAYS:

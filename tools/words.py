@@ -1,8 +1,9 @@
 #!/usr/bin/env python3
-"""Says where a name in code has a word that the glossary gives up for another: one word stands for one thing.
+"""Reports the names in code that have a word which the glossary gives up for another: one word stands for one thing.
 
-A name's parts are compared, not its whole: `front` is found in `front_of` and in `IsFront`. A word may stay where the
-table names the folder or file, since there it is another thing's own word. The exit status is 1 if a name is found.
+A name is compared part by part: `front` is found in `front_of` and in `IsFront`. A word may stay in the folders and
+files that the table names, since there it is the right word for something else. The exit status is 1 if a name is
+found.
 """
 
 import re
@@ -10,7 +11,7 @@ import sys
 
 from crates import TOP
 
-# Each word that is given up, the words in its place, and where it stays.
+# Each word that is given up, the words that replace it, and where it may stay.
 WORDS = {
     "alarm": ("schema_differs", ()),
     "board": ("metrics", ()),
@@ -53,7 +54,7 @@ def parts_of(name):
 
 
 def found():
-    """Each name with a word that is given up: the file, the line's number, the name and the word."""
+    """Each name with a word that is given up: the file, the line number, the name and the word."""
     for path in sorted((TOP / "crates").rglob("*")):
         if path.suffix not in (".rt", ".antt") or "out" in path.parts:
             continue

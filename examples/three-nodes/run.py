@@ -4,10 +4,10 @@
 usage: examples/three-nodes/run.py PROGRAM [SECONDS] [SEED]
 
 PROGRAM is the built program, crates/rr_tool/out/rr_tool. Senders write to all three nodes, and send again what isn't
-acknowledged. Meanwhile nodes are killed with SIGKILL and started again from their directories, and one is stopped for
-half of the time, while the others have to take lines and answer fetches as before. SECONDS is 120 and SEED 1, if
-missing. In the end the proxies pass on everything, and each series has to be answered alike by all three, as a model
-says that keeps each sample. Ends with status 1 where something else comes.
+acknowledged. Meanwhile nodes are killed with SIGKILL and restarted from their directories, and one is stopped for half
+of the time, while the others have to take lines and answer fetches as before. SECONDS is 120 and SEED 1 by default. In
+the end the proxies pass on everything, and all three have to give the same answers for each series, those of a model
+that keeps every sample. Ends with status 1 if anything else happens.
 """
 
 import http.client
@@ -39,7 +39,7 @@ xff_den = 1
 NAMES = "abc"
 BEGIN = 1_700_000_040
 SERIES = 20
-# For how many seconds the nodes may take to answer alike in the end.
+# Seconds that the nodes may take until they answer alike in the end.
 PATIENCE = 120
 # For how many seconds a line or a fetch may take, whatever a peer does.
 LONGEST = 2
@@ -54,7 +54,7 @@ def free_ports(count):
 
 
 class Proxy:
-    """Passes on what one node asks another, and does with the answers what a bad network does."""
+    """Passes on what one node asks another, and does to the answers what a bad network does."""
 
     def __init__(self, port, target, seed):
         self.target, self.random = target, random.Random(seed)
@@ -76,7 +76,7 @@ class Proxy:
             pass
 
     def pass_on(self, stream, reader):
-        """Passes on a request and its answer, and says whether the connection stays."""
+        """Passes on a request and its answer, and returns whether the connection stays open."""
         request = b""
         while not request.endswith(b"\r\n\r\n"):
             line = reader.readline()
@@ -102,7 +102,7 @@ class Proxy:
         return True
 
     def ask(self, request):
-        """The whole answer of the node behind."""
+        """The whole answer of the node behind the proxy."""
         with socket.create_connection(("127.0.0.1", self.target), timeout=10) as stream, \
                 stream.makefile("rb") as reader:
             stream.sendall(request)
@@ -148,7 +148,7 @@ class Node:
             self.start()
 
     def ask(self, method, target, body=None):
-        """The status and the text that is answered, and the seconds until then."""
+        """The status and the text of the answer, and the seconds until then."""
         began = time.monotonic()
         connection = http.client.HTTPConnection("127.0.0.1", self.port, timeout=30)
         try:
@@ -198,7 +198,7 @@ class Sender(threading.Thread):
 
 
 def expected(samples):
-    """The rows that a model has, which keeps each sample: by series and function."""
+    """The rows of a model that keeps each sample: by series and row."""
     rows = {}
     for series, second, value in samples:
         rows.setdefault(series, {}).setdefault(second // 60 * 60, []).append((second, value))
@@ -221,7 +221,7 @@ def wanted(rows, function):
 
 
 def are_alike(nodes, rows, last):
-    """The first series and node that answer otherwise than the model, or none."""
+    """The first series and node that answer differently from the model, or none."""
     for series in range(SERIES):
         for function in ("LAST", "MIN", "MAX"):
             want = wanted(rows.get(series, {}), function)
