@@ -32,7 +32,7 @@ The convergence theorem for scripts is the second clause of this contract, prove
 ```
 
 It says: if memory isn't refused, `run` prints what the *sample model* prints. In that model a node holds every sample
-that reached it and throws none away; each fetch filters and folds them. The first clause says the same of a model
+that reached it and drops none; each fetch filters and folds them. The first clause says the same of a model
 whose nodes hold cells, and shows how the code works; nobody has to read it.
 
 So what a script prints rests on the {count} definitions below, {lines} lines with their comments; on the types and constants
@@ -41,15 +41,15 @@ wrap; texts are lists of bytes; a division rounds to the floor.
 
 How a contract is read, this one and any other:
 
-- `requires`, which `run` hasn't, is what a caller has to prove at the call; `ensures` is what the body is proved to keep.
+- `requires`, which `run` doesn't have, is what a caller has to prove; `ensures` is what the body is proved to guarantee.
   The word before the braces is the clause's label. A law is a function with an empty body: its `ensures` is a statement
   over definitions, proved once and for all.
 - `self.old` and `self.new` are what `self` points to as the call begins and as it returns, and `script.now` is what a
   shared reference points to. A type is seen as its *model*, a value without its memory.
 - `≡` is equality, `++` joins lists, `∷` puts an element before a list, `→` is "implies" or a function, `↔` "exactly if",
   `×` "and".
-- `IfOk r (λ v. p)` says `p` of the value of a result that is `Ok`, and nothing of another; `OnOk`, `OnErr`, `IfErr` and
-  `IfSome` are read alike.
+- `IfOk r (λ v. p)` says that `p` holds of the value if the result is `Ok`, and nothing otherwise; read `OnOk`, `OnErr`,
+  `IfErr` and `IfSome` in the same way.
 
 This page is printed by `tools/headline.py`.
 """
