@@ -1,5 +1,5 @@
 -- How a node reads on in the store of a peer.
-use Rattle.std.specs.Prelude.{◌≡◌, ℕ, nat_eq, Bool, true, false, List, take, drop, Option, None, Some, IfSome, unwrap_or, Result, Ok}
+use Rattle.std.specs.Prelude.{◌≡◌, ℕ, ◌==◌, ◌||◌, nat_eq, Bool, true, false, List, take, drop, Option, None, Some, IfSome, unwrap_or, Result, Ok}
 use Rattle.std.specs.Cmp.Lexicographic.{pointwise}
 use Rattle.std.specs.List.{find}
 use Rattle.rr_text.specs.Results.{GivesUnless}
@@ -25,6 +25,30 @@ use Rattle.rr_replication.specs.Reading.{PeerState, after_part, peer_state}
 abbrev pub ReadsOn : Layout → PeerState → List Cell → List ℕ → Result Cursor PartFault → Type 0
 ReadsOn s before cells bytes result =
     GivesUnless Memory (λ end. peer_state end cells) result (after_part s before bytes)
+
+-- ---- before a peer is greeted
+
+-- nothing is known of the peer, but how far these journals were read before
+pub record IsNew (f : Following) (known : List Cursor) : Type 0 where
+  pub known_is : f.known.items ≡ known
+  pub position_is : f.position ≡ None
+  pub greets : f.is_greeted ≡ false
+  pub begins : f.is_beginning ≡ false
+
+-- the peer is greeted before anything else is asked for; where the node is in its store stays
+pub record GreetsAnew (old new : Following) : Type 0 where
+  pub greets : new.is_greeted ≡ false
+  pub known_is : new.known.items ≡ old.known.items
+  pub position_is : new.position ≡ old.position
+  pub id_is : new.id ≡ old.id
+  pub begins : new.is_beginning ≡ old.is_beginning
+
+-- whether a checkpoint is being read, or the newest one is to be
+abbrev pub is_in_checkpoint : Option Position → Bool
+is_in_checkpoint (Some Newest) = true
+is_in_checkpoint (Some (Checkpoint begins place)) = true
+is_in_checkpoint (Some (Journal place)) = false
+is_in_checkpoint None = false
 
 -- ---- what is asked for
 
@@ -129,6 +153,33 @@ pub record IsAtEnd (at : Cursor × Cursor) (had cells : List Cell) (position : O
   pub same : cells ≡ had
   pub position_is : position ≡ Some (Journal at.0)
   pub result_is : result ≡ Ok (More (Some at.0))
+
+-- ---- a peer that has lost what is asked for
+
+-- whether bytes from a place on are asked for, of the journal or of a checkpoint
+abbrev pub part_by : Bool → Option Position → Bool
+part_by true (Some (Journal place)) = true
+part_by true (Some (Checkpoint begins place)) = true
+part_by true (Some Newest) = false
+part_by true None = false
+part_by false position = false
+
+-- the peer no longer has the bytes that are asked for
+pub record IsGone (f : Following) (answer : PeerAnswer) : Type 0 where
+  pub asked : part_by f.is_greeted f.position ≡ true
+  pub gone : answer.status ≡ 410
+
+-- whether a checkpoint was begun, and the journal not continued since, after an answer that is taken: a checkpoint is
+-- begun if bytes are gone, and the journal is continued by any other answer of it
+abbrev pub beginning_by : Bool → Option Position → ℕ → Bool → Bool
+beginning_by true (Some (Journal place)) status was = status == 410
+beginning_by true (Some (Checkpoint begins place)) status was = was || status == 410
+beginning_by true (Some Newest) status was = was
+beginning_by true None status was = was
+beginning_by false position status was = was
+
+abbrev pub beginning_after : Following → PeerAnswer → Bool
+beginning_after f answer = beginning_by f.is_greeted f.position answer.status f.is_beginning
 
 -- ---- the greeting
 

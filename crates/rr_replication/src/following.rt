@@ -1,6 +1,6 @@
 //! How a node follows the journal of a peer.
 
-ghost use Rattle.std.specs.Prelude.{◌≡◌, true, nat_eq, All, IfOk, IfSome, None, OnErr, OnOk, Some};
+ghost use Rattle.std.specs.Prelude.{◌≡◌, ◌==◌, ◌||◌, true, nat_eq, All, Err, IfOk, IfSome, None, OnErr, OnOk, Some};
 ghost use Rattle.std.specs.Cmp.Lexicographic.{pointwise};
 ghost use Rattle.std.specs.List.{find};
 ghost use Rattle.rr_cells.specs.CellBounds.{IsCellOf};
@@ -96,11 +96,14 @@ fn cursor_of(cursors: &[Cursor], id: [u8; ID_LEN]) -> Option<Cursor>
 impl Following {
     ghost use Rattle.rr_replication.specs.declared.position.Position.TheVariants.{Journal, Newest};
     ghost use Rattle.rr_replication.specs.declared.following.Next.TheVariants.{More};
-    ghost use Rattle.rr_replication.specs.Following.{IsAtEnd, IsBegun, IsGreeted, IsReadOn, after_journal, asked_checkpoint, asked_place, asked_position, asked_target, asks_newest, known_place, places_of};
+    ghost use Rattle.rr_replication.specs.declared.peer_fault.PeerFault.TheVariants.{Gone};
+    ghost use Rattle.rr_replication.specs.Following.{GreetsAnew, IsAtEnd, IsBegun, IsGone, IsGreeted, IsNew, IsReadOn, after_journal, asked_checkpoint, asked_place, asked_position, asked_target, asks_newest, beginning_after, is_in_checkpoint, known_place, places_of};
 
     /// Follows a peer from where the journal with its id was read up to, if that is among `known`,
     /// else from the beginning.
-    pub fn new(alloc: Global, known: Vec<Cursor>) -> Following {
+    pub fn new(alloc: Global, known: Vec<Cursor>) -> Following
+        ensures { IsNew result known.items }
+    {
         Following {
             alloc,
             known,
@@ -112,12 +115,16 @@ impl Following {
     }
 
     /// Notes that a new connection is begun, over which the peer is to be greeted first.
-    pub fn reconnect(&mut self) {
+    pub fn reconnect(&mut self)
+        ensures { GreetsAnew self.old self.new }
+    {
         self.is_greeted = false;
     }
 
     /// Whether a checkpoint is being read.
-    pub fn is_in_checkpoint(&self) -> bool {
+    pub fn is_in_checkpoint(&self) -> bool
+        ensures { result ≡ is_in_checkpoint self.now.position }
+    {
         matches!(
             self.position,
             Some(Position::Newest) | Some(Position::Checkpoint { .. })
@@ -149,6 +156,7 @@ impl Following {
         ensures known { OnOk result (self.new.known.items ≡ places_of self.old) }
         ensures position { self.new.position ≡ self.old.position }
         ensures id { self.new.id ≡ self.old.id }
+        ensures beginning { self.new.is_beginning ≡ self.old.is_beginning }
     {
         let Some(Position::Journal(place)) = self.position else {
             return Ok(());
@@ -159,7 +167,8 @@ impl Following {
     /// Takes the answer to a greeting: where the peer's journal is. A journal other than before is
     /// continued from where it was read up to.
     fn take_greeting(&mut self, answer: &PeerAnswer) -> Result<Next, PeerFault>
-        ensures { IfOk result (IsGreeted self.old answer.now self.new) }
+        ensures greeted { IfOk result (IsGreeted self.old answer.now self.new) }
+        ensures beginning { self.new.is_beginning ≡ self.old.is_beginning }
     {
         if answer.status != 204 {
             return Err(status_fault(answer.status));
@@ -182,6 +191,8 @@ impl Following {
         ensures next { IfOk result (λ next. next ≡ More None) }
         ensures position { self.new.position ≡ Some Newest }
         ensures peer { self.new.id ≡ self.old.id }
+        ensures beginning { IfOk result (λ next. self.new.is_beginning ≡ true) }
+        ensures recurs { self.old.is_beginning ≡ true → result ≡ Err Gone }
     {
         self.position = Some(Position::Newest);
         if self.is_beginning {
@@ -206,6 +217,8 @@ impl Following {
             cells.new.items) }
         ensures position { IfOk result (λ next. self.new.position ≡ Some (after_journal place next)) }
         ensures peer { self.new.id ≡ self.old.id }
+        ensures beginning { IfOk result (λ next. self.new.is_beginning ≡ (answer.now.status == 410)) }
+        ensures recurs { self.old.is_beginning ≡ true → answer.now.status ≡ 410 → result ≡ Err Gone }
         ensures of_schema { OnOk result (All (λ c. IsCellOf schema.now (owned_cell c)) cells.old.items
             → All (λ c. IsCellOf schema.now (owned_cell c)) cells.new.items) }
         ensures refused { OnErr result (cells.new.items ≡ cells.old.items) }
@@ -243,6 +256,7 @@ impl Following {
         ensures begun { IfOk result (IsBegun schema.now self.old.id cells.old.items
             answer.now.body.items cells.new.items self.new.position) }
         ensures peer { self.new.id ≡ self.old.id }
+        ensures beginning { self.new.is_beginning ≡ self.old.is_beginning }
         ensures of_schema { OnOk result (All (λ c. IsCellOf schema.now (owned_cell c)) cells.old.items
             → All (λ c. IsCellOf schema.now (owned_cell c)) cells.new.items) }
         ensures refused { OnErr result (cells.new.items ≡ cells.old.items) }
@@ -284,6 +298,9 @@ impl Following {
         ensures end { answer.now.status ≡ 204 → IsAtEnd (begins, place) cells.old.items cells.new.items
             self.new.position result }
         ensures peer { self.new.id ≡ self.old.id }
+        ensures beginning { IfOk result (λ next. self.new.is_beginning
+            ≡ (self.old.is_beginning || answer.now.status == 410)) }
+        ensures recurs { self.old.is_beginning ≡ true → answer.now.status ≡ 410 → result ≡ Err Gone }
         ensures of_schema { OnOk result (All (λ c. IsCellOf schema.now (owned_cell c)) cells.old.items
             → All (λ c. IsCellOf schema.now (owned_cell c)) cells.new.items) }
         ensures refused { OnErr result (cells.new.items ≡ cells.old.items) }
@@ -339,6 +356,10 @@ impl Following {
         ensures greeting { asked_position self.old ≡ None → IfOk result (IsGreeted self.old answer.now
             self.new) }
         ensures peer { IfSome (asked_position self.old) (λ position. self.new.id ≡ self.old.id) }
+        ensures beginning { IfOk result (λ next. self.new.is_beginning
+            ≡ beginning_after self.old answer.now) }
+        ensures recurs { self.old.is_beginning ≡ true → IsGone self.old answer.now
+            → result ≡ Err Gone }
         ensures of_schema { OnOk result (All (λ c. IsCellOf schema.now (owned_cell c)) cells.old.items
             → All (λ c. IsCellOf schema.now (owned_cell c)) cells.new.items) }
         ensures refused { OnErr result (cells.new.items ≡ cells.old.items) }
