@@ -41,7 +41,7 @@ BEGIN = 1_700_000_040
 SERIES = 20
 # Seconds that the nodes may take until they answer alike in the end.
 PATIENCE = 120
-# For how many seconds a line or a fetch may take, whatever a peer does.
+# Seconds that a fetch may take, whatever a peer does.
 LONGEST = 2
 
 
@@ -166,7 +166,7 @@ class Sender(threading.Thread):
     def __init__(self, node, place, seed):
         super().__init__(daemon=True)
         self.node, self.place, self.random = node, place, random.Random(seed)
-        self.samples, self.is_over, self.longest, self.again = [], False, 0, 0
+        self.samples, self.is_over, self.again = [], False, 0
 
     def run(self):
         row = 0
@@ -189,11 +189,9 @@ class Sender(threading.Thread):
             time.sleep(0.2)
             return False
         try:
-            status, _, seconds = self.node.ask("POST", "/write", body)
+            status, _, _ = self.node.ask("POST", "/write", body)
         except (OSError, http.client.HTTPException):
             return False
-        if not self.node.is_stopped:
-            self.longest = max(self.longest, seconds)
         return status == 204
 
 
