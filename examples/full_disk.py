@@ -132,7 +132,8 @@ def disk_is_full(program, folder, data):
 def folder_is_read_only(program, folder, data, sent):
     subprocess.run(["mount", "-o", "remount,ro", data], check=True)
     config = pathlib.Path(folder, "node.toml")
-    run = subprocess.run([program, "node", config, "--data", data], capture_output=True, text=True, timeout=30, check=False)
+    words = [program, "node", config, "--data", data]
+    run = subprocess.run(words, capture_output=True, text=True, timeout=30, check=False)
     check("a start in a folder that is read-only", (run.returncode, "Read-only file system" in run.stderr), (3, True))
     subprocess.run(["mount", "-o", "remount,rw", data], check=True)
     node = Node(program, folder, data)

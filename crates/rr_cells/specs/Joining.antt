@@ -10,7 +10,7 @@ use Rattle.rr_cells.specs.Listing.{owned_cell}
 abbrev pub next_after : ℕ → ℕ → NamedCell → ℕ
 next_after origin next e = if (e.0.origin == origin && nat_le next e.1.version) then e.1.version + 1 else next
 
--- and so past the versions of these cells, in order
+-- the same for each of these cells, in order
 abbrev pub next_past : ℕ → ℕ → List NamedCell → ℕ
 next_past origin next [] = next
 next_past origin next (e ∷ es) = next_past origin (next_after origin next e) es

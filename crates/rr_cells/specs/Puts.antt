@@ -18,7 +18,7 @@ unfoldable pub put_mark : Layout → Cells → Mark → Cells
 put_mark s cells m = trimmed (is_live s) (insert cells (name_of s m)
     (contribution_with (get cells (name_of s m)) (slot_sample_of s m)))
 
--- and so for each of these marks, in order
+-- the same for each of these marks, in order
 abbrev pub put_marks : Layout → Cells → List Mark → Cells
 put_marks s cells [] = cells
 put_marks s cells (m ∷ ms) = put_marks s (put_mark s cells m) ms

@@ -17,8 +17,8 @@ pub record IsBounded (c : Contribution) : Type 0 where
   pub low : (pos c.count *ℤ c.min) ≤ℤ c.sum
   pub high : c.sum ≤ℤ (pos c.count *ℤ c.max)
 
--- one that a sample with this number can be added to: the number is greater, there are no more samples than numbers,
--- and the sum has room
+-- a contribution to which a sample with this number can be added: the number is greater than its version, it has no
+-- more samples than its version, and its sum is within its bounds
 pub record CanAdd (number : ℕ) (c : Contribution) : Type 0 where
   pub newer : c.version < number
   pub counted : c.count ≤ c.version

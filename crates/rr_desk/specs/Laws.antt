@@ -113,7 +113,7 @@ JoinIsAStep =
     → IsWhole h.schema (scene_after h z steps).world known c
     → HasHistory h z (steps ++ joined known c ∷ []) (with_pending k (Join c))
 
--- `publish` is no step
+-- `publish` takes no step
 abbrev pub PublishIsNoStep : Type 0
 PublishIsNoStep = (h : ReplicaState) (z : HistoryState) (steps : List HistoryStep) (k : KeeperState)
     → HasHistory h z steps k → HasHistory h z steps (with_all_published k)

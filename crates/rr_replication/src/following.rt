@@ -333,9 +333,10 @@ impl Following {
     /// there.
     ///
     /// Refused as `SchemaDiffers` by the peer; as `Gone` if it has neither the journal from here on
-    /// nor a checkpoint; as [`PartFault`] says if its bytes don't continue from here or mean
-    /// nothing: then the newest checkpoint is asked for next; as `BadAnswer` if no node answers so;
-    /// and as `Memory`. After a refusal no cells are added.
+    /// nor a checkpoint, or loses what is asked for again after a checkpoint was begun and before
+    /// the journal was continued; as [`PartFault`] says if its bytes don't continue from here or
+    /// mean nothing: then the newest checkpoint is asked for next; as `BadAnswer` if no node
+    /// answers so; and as `Memory`. After a refusal no cells are added.
     pub fn take(
         &mut self,
         answer: &PeerAnswer,
