@@ -27,7 +27,7 @@ plain_digit byte digit =
     let feed = other 10 (λ h. absurd (omega arith)) in
     rw (comma, quote, return, feed) refl
 
-plain_digits : (text : List ℕ) → AllDigits 10 text → IsPlain text
+pub plain_digits : (text : List ℕ) → AllDigits 10 text → IsPlain text
 plain_digits [] all = refl
 plain_digits (byte ∷ text) all = rw (plain_digit byte all.0, plain_digits text all.1) refl
 

@@ -9,15 +9,15 @@
 //! [`read_request`] reads a [`Request`] from them and the schema, which chooses the archive;
 //! [`parse_request`] does both. [`consolidate`] makes a row from the entries of its slot, which are
 //! what each origin contributes to it. [`answer_text`] looks up the entries of each slot of a
-//! request in a replica, and writes a CSV record for each row, whose first field, the key, it
-//! encodes once (`plain`), and whose numbers it writes into a buffer (`digits`); [`answer`] writes
-//! that text to a stream. [`push_plain`] adds other records.
+//! request in a replica, and writes a CSV record for each row, whose first field, the key, a writer
+//! of `csv` writes once (`plain`), and whose numbers it writes into a buffer (`digits`); [`answer`]
+//! writes that text to a stream. [`push_plain`] adds other records.
 //!
 //! In `specs/`, a request, or else the first fault, is a function of the bytes
 //! (`specs/Requests.antt`), a row one of the entries (`specs/Consolidation.antt`), the text of a
-//! record one of its fields, in CSV's own words (`specs/Records.antt`), and an answer one of the
+//! record one of its fields, by the rules of CSV (`specs/Records.antt`), and an answer one of the
 //! replica's cells (`specs/Answers.antt`). [`laws`] says that rows and answers are those of the
-//! samples that the cells were made from.
+//! samples that the cells were made from, and that records are what a writer of `csv` writes.
 #![tactic(auto)]
 
 mod answering;

@@ -5,6 +5,7 @@ ghost use Rattle.std.specs.List.{list_any, flat_map};
 ghost use Rattle.rr_cells.specs.FetchText.{comma, doubled, field_text, is_special};
 ghost use Rattle.rr_fetch.specs.Records.{record_text, IsPlain};
 
+use csv::Writer;
 use rr_text::bytes::{COMMA, LINE_FEED, RETURN};
 use rr_text::text::cut;
 use std::alloc::{AllocError, Global};
@@ -32,15 +33,23 @@ pub fn push_plain(
     text.extend_from_slice(b"\n")
 }
 
-/// The beginning of each record with this first field: the field, in double quotes if CSV requires
-/// them, and a comma. The cost is linear in its bytes.
+/// The beginning of each record with this first field: the field, as a writer of `csv` writes it,
+/// and the comma that comes before a second one. The cost is linear in its bytes, and the writer has
+/// a buffer of 8 KiB.
 pub fn prefix_of(alloc: Global, first: &[u8]) -> Result<Vec<u8>, AllocError>
     ensures { IfOk result (λ prefix. prefix.items ≡ field_text first.now ++ comma ∷ []) }
 {
-    let mut prefix = Vec::new(alloc);
-    push_field(&mut prefix, first)?;
-    prefix.extend_from_slice(b",")?;
-    Ok(prefix)
+    let mut writer = Writer::from_writer(Vec::new(alloc));
+    let Ok(()) = writer.write_field(first) else {
+        return Err(AllocError);
+    };
+    let Ok(()) = writer.write_field(b"") else {
+        return Err(AllocError);
+    };
+    match writer.into_inner() {
+        Ok(prefix) => Ok(prefix),
+        Err(_) => Err(AllocError),
+    }
 }
 
 /// Adds a field, in double quotes if CSV requires them.
