@@ -90,14 +90,14 @@ fn value_at<A: Cells>(
     Ok(consolidate(entries, schema, request.archive, request.cf))
 }
 
-/// An empty text with room for this many rows, each of the longest record with this prefix, and no
-/// more.
-fn text_for(alloc: Global, prefix: &[u8], rows: u32) -> Result<Vec<u8>, AllocError>
+/// An empty text with room for the rows of a request, each of the longest record with this prefix,
+/// and no more.
+fn text_for(alloc: Global, prefix: &[u8], request: &Request) -> Result<Vec<u8>, AllocError>
     ensures empty { IfOk result (λ text. text.items ≡ []) }
     ensures room { IfOk result (λ text. vec_capacity text
-        ≡ min ((length prefix.now + MAX_REST) * rows) (2 ^ 64 - 1)) }
+        ≡ min ((length prefix.now + MAX_REST) * request.now.rows) (2 ^ 64 - 1)) }
 {
-    let room = (prefix.len() + MAX_REST).saturating_mul(rows as usize);
+    let room = (prefix.len() + MAX_REST).saturating_mul(request.rows as usize);
     Vec::with_capacity(alloc, room)
 }
 
@@ -122,7 +122,7 @@ pub fn answer_text<A: Cells>(
     let span = schema.span(request.archive);
     let archive = replica.archive(&request.key, request.archive);
     let prefix = prefix_of(alloc, request.key.text())?;
-    let mut text = text_for(alloc, &prefix, request.rows)?;
+    let mut text = text_for(alloc, &prefix, request)?;
     let mut rest = [0; MAX_REST];
     let mut rows = Rows::new(alloc, archive);
     let mut entries = Vec::new(alloc);
