@@ -1,7 +1,6 @@
 pub mod KeyLemmas
 pub mod RequestLemmas
 pub mod CsvLemmas
-pub mod PlainLemmas
 pub mod WriterLemmas
 pub mod Gathering
 pub mod MoreEntries

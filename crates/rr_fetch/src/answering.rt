@@ -12,7 +12,7 @@ ghost use Rattle.rr_fetch.specs.declared.record.TheConstants.{MAX_REST};
 
 use crate::consolidation::{consolidate, consolidate_one};
 use crate::fault::AnswerFault;
-use crate::plain::prefix_of;
+use crate::prefix::prefix_of;
 use crate::record::{MAX_REST, push_row};
 use crate::request::Request;
 use crate::rows::Rows;

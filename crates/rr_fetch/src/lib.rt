@@ -10,8 +10,8 @@
 //! [`parse_request`] does both. [`consolidate`] makes a row from the entries of its slot, which are
 //! what each origin contributes to it. [`answer_text`] looks up the entries of each slot of a
 //! request in a replica, and writes a CSV record for each row, whose first field, the key, a writer
-//! of `csv` writes once (`plain`), and whose numbers it writes into a buffer (`digits`); [`answer`]
-//! writes that text to a stream. [`push_plain`] adds other records.
+//! of `csv` writes once ([`prefix_of`]), and whose numbers it writes into a buffer (`digits`);
+//! [`answer`] writes that text to a stream.
 //!
 //! In `specs/`, a request, or else the first fault, is a function of the bytes
 //! (`specs/Requests.antt`), a row one of the entries (`specs/Consolidation.antt`), the text of a
@@ -25,7 +25,7 @@ mod consolidation;
 mod digits;
 mod fault;
 pub mod laws;
-mod plain;
+mod prefix;
 mod record;
 mod request;
 mod rows;
@@ -35,6 +35,6 @@ mod words;
 pub use answering::{answer, answer_text};
 pub use consolidation::consolidate;
 pub use fault::{AnswerFault, RequestFault};
-pub use plain::{prefix_of, push_plain};
+pub use prefix::prefix_of;
 pub use request::{Request, parse_request, read_request};
 pub use words::{RequestWords, request_words};

@@ -1,3 +1,4 @@
+pub mod RecordLemmas
 pub mod PointLemmas
 pub mod ReportLemmas
 pub mod StreamLemmas

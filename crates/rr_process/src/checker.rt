@@ -5,7 +5,9 @@ ghost use Rattle.rr_feed.specs.Feed.{items_left};
 ghost use Rattle.rr_feed.specs.declared.piece.TheConstants.{PIECE};
 
 use crate::fault::ToolFault;
+use crate::records::{report_writer, text_of};
 use crate::report::push_item;
+use csv::Writer;
 use rr_feed::Feed;
 use rr_io::Counted;
 use rr_io::stream::{flush, write_all};
@@ -32,6 +34,7 @@ pub(crate) struct Checker {
 
 impl Checker {
     ghost use Rattle.rr_process.specs.Checker.{CheckerMayTake, CheckerTakesPiece, IsNew, Reports, ReportsAll, WritesItems, WritesReport};
+    ghost use Rattle.rr_process.specs.Writing.{written, IsBetween};
 
     /// A checker to which no line came yet.
     pub(crate) fn new(alloc: Global, precision: Precision, now: i64) -> Checker
@@ -61,17 +64,18 @@ impl Checker {
     }
 
     /// Reports and counts the items that can be handed out.
-    fn push_items(&mut self, report: &mut Vec<u8>) -> Result<(), AllocError>
+    fn push_items(&mut self, report: &mut Writer<Vec<u8>>) -> Result<(), AllocError>
+        requires { IsBetween report.old }
         ensures reported { OnOk result ((text : List ℕ)
-            × (report.new.items ≡ report.old.items ++ text) × Reports self.old self.new text) }
+            × (written report.new ≡ written report.old ++ text) × Reports self.old self.new text) }
         ensures all_taken { OnOk result (items_left self.new.feed ≡ []) }
     {
-        let mut key = Vec::new(self.alloc);
+        let mut field = Vec::new(self.alloc);
         while let Some(item) = self.feed.next_line() {
             let refused = push_item(
                 self.alloc,
                 report,
-                &mut key,
+                &mut field,
                 item,
                 self.lines + 1,
                 self.precision,
@@ -87,9 +91,9 @@ impl Checker {
     fn report(&mut self) -> Result<Vec<u8>, AllocError>
         ensures { IfOk result (λ text. ReportsAll self.old self.new text.items) }
     {
-        let mut report = Vec::new(self.alloc);
+        let mut report = report_writer(self.alloc);
         self.push_items(&mut report)?;
-        Ok(report)
+        text_of(report)
     }
 
     /// Writes the report of the items that can be handed out.

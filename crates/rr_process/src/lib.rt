@@ -9,7 +9,8 @@
 //! traits of a runtime, so that a test can stand in for the process. [`obey_order`] runs a script
 //! ([`run_script`]) or checks lines ([`check_lines`]), from a reader to a writer, and its contract
 //! says what is written: what the sample model prints for the script (`specs/Orders.antt`), or the
-//! report of the lines (`specs/Report.antt`), which is written piece by piece as they come.
+//! report of the lines (`specs/Report.antt`), which is written piece by piece as they come, and
+//! whose records a writer of `csv` makes (`records`).
 //! Wherever a run ends, what is written is a prefix of that. Streams are counted, so that one is
 //! blamed only if a call of it failed ([`ToolFault`]).
 //!
@@ -24,6 +25,7 @@ mod ending;
 mod fault;
 mod orders;
 mod process;
+mod records;
 mod report;
 mod script;
 mod streams;

@@ -1,6 +1,6 @@
 //! CSV records, and refusals.
 
-use rr_fetch::push_plain;
+use rr_fetch::prefix_of;
 use rr_text::refusal::push_refusal;
 use std::alloc::{AllocError, Global};
 use std::test::Fail;
@@ -9,7 +9,8 @@ use std::test::Fail;
 fn text_of(alloc: Global, names: &[&[u8]]) -> Result<Vec<u8>, AllocError> {
     let mut text = Vec::new(alloc);
     for name in names {
-        push_plain(&mut text, name, b"1", b"-2")?;
+        text.extend_from_slice(&prefix_of(alloc, name)?)?;
+        text.extend_from_slice(b"1,-2\n")?;
     }
     push_refusal(&mut text, 18_446_744_073_709_551_615, "NoFields")?;
     Ok(text)

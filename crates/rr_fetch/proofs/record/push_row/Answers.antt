@@ -1,8 +1,7 @@
 use Rattle.std.proofs.Common.{rules, ◌≡◌, ◌++◌, [], ◌∷◌, ap, ◌∙◌, List, ℕ}
 use Rattle.std.specs.Fmt.{signed_decimal}
 use Rattle.rr_cells.specs.FetchText.{comma, line_feed, value_text}
-use Rattle.rr_fetch.proofs.PlainLemmas.{at_ok}
-use Rattle.rr_fetch.proofs.RecordLemmas.{prefix_and_rest}
+use Rattle.rr_fetch.proofs.RecordLemmas.{at_ok, prefix_and_rest}
 use Rattle.rr_fetch.proofs.record.push_row.Goals as goal
 
 pub returns : goal.returns

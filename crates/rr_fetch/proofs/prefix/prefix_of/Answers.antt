@@ -2,7 +2,7 @@ use Rattle.std.proofs.Common.{◌≡◌, ◌≢◌, ◌++◌, ◌∷◌, [], fal
 use Rattle.csv.specs.declared.writer.QuoteStyle.TheVariants as style
 use Rattle.csv.specs.Writing.{default_writer, fields_written, writer_pending, writer_under}
 use Rattle.rr_fetch.proofs.WriterLemmas.{field_is}
-use Rattle.rr_fetch.proofs.plain.prefix_of.Goals as goal
+use Rattle.rr_fetch.proofs.prefix.prefix_of.Goals as goal
 
 pub returns-in-Ok-into_inner : goal.returns-in-Ok-into_inner
 returns-in-Ok-into_inner c =
