@@ -7,4 +7,5 @@ pub mod Intake
 pub mod Habits
 pub mod Config
 pub mod Node
+pub mod Slow
 pub mod Laws

@@ -3,6 +3,7 @@
 use crate::config::Config;
 use crate::fault::ConfigFault;
 use crate::node::NodeConfig;
+use rr_schema::SchemaFault;
 use std::alloc::Global;
 use toml::Table;
 
@@ -80,8 +81,22 @@ impl Command {
     pub(crate) fn bounds(self, key: &str, fault: ConfigFault) -> Option<&'static str> {
         match (self, fault) {
             (Command::Node, ConfigFault::BadCount) => Some(node_bounds(key)),
+            (Command::Node, ConfigFault::WrongKind | ConfigFault::Schema(SchemaFault::WrongKind)) =>
+                { Some(kind_of(key)) }
             _ => None,
         }
+    }
+}
+
+/// Of which kind the value at a key of `rr node` must be.
+fn kind_of(key: &str) -> &'static str {
+    match key {
+        "http" | "lines" | "precision" => "must be a text in quotes",
+        "origins" => "must be two whole numbers in brackets",
+        "peers" => "must be texts in brackets",
+        "quiet" => "must be true or false",
+        "archive" => "must be tables, each below a line [[archive]]",
+        _ => "must be a whole number",
     }
 }
 

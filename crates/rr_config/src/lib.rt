@@ -27,7 +27,9 @@ pub mod laws;
 mod named_key;
 mod node;
 mod origins;
+mod peers;
 mod remark;
+mod slow;
 mod value;
 
 pub use config::Config;

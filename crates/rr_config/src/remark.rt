@@ -3,6 +3,10 @@
 use crate::command::{Command, UNKNOWN};
 use crate::fault::ConfigFault;
 use crate::named_key::{ARCHIVE_KEYS, NamedKey, archives_of, refused_key};
+use crate::peers::lost_peer;
+use crate::slow::slowest;
+use rr_document::FromToml;
+use rr_schema::{ArchiveSpec, Schema};
 use std::alloc::{AllocError, Global};
 use std::fmt::Display;
 use std::str;
@@ -20,7 +24,8 @@ pub fn remarks(alloc: Global, text: &[u8]) -> Result<Vec<String>, AllocError> {
 }
 
 /// What an operator is told about a text besides its [`NodeConfig`](crate::NodeConfig) or its
-/// fault, as by [`remarks`]. A key that only `rr serve` has is reported as such.
+/// fault, as by [`remarks`]. A key that only `rr serve` has is reported as such; so are a peer that
+/// can't be followed, and archives that know nothing of slow series.
 pub fn node_remarks(alloc: Global, text: &[u8]) -> Result<Vec<String>, AllocError> {
     remarks_for(alloc, Command::Node, text)
 }
@@ -84,11 +89,55 @@ fn push_table_remarks(
                 let text = "no lead: one point from far in the future ends its series";
                 lines.push(String::from_str(alloc, text)?)?;
             }
-            Ok(())
+            match command {
+                Command::Serve => Ok(()),
+                Command::Node => push_node_remarks(alloc, lines, table),
+            }
         }
         Err(ConfigFault::Memory) => Err(AllocError),
         Err(fault) => push_refusal(alloc, lines, command, table, fault),
     }
+}
+
+/// Adds what is told about the peers and the archives of a node.
+fn push_node_remarks(
+    alloc: Global,
+    lines: &mut Vec<String>,
+    table: &Table,
+) -> Result<(), AllocError> {
+    if let Some((peer, why)) = lost_peer(table) {
+        lines.push(format!(in alloc; "peers: {peer} {why}")?)?;
+    }
+    match Schema::from_table(alloc, table) {
+        Ok(schema) => push_slow(alloc, lines, schema.archives()),
+        Err(_) => Ok(()),
+    }
+}
+
+/// Adds which archives know nothing of series that send too slowly.
+fn push_slow(
+    alloc: Global,
+    lines: &mut Vec<String>,
+    archives: &[ArchiveSpec],
+) -> Result<(), AllocError> {
+    for (place, archive) in archives.iter().enumerate() {
+        let number = place + 1;
+        let line = match slowest(archive) {
+            None => continue,
+            Some(1) => {
+                format!(in alloc;
+                    "archive {number} knows nothing of a series that doesn't send in each step"
+                )
+            }
+            Some(steps) => {
+                format!(in alloc;
+                    "archive {number} knows nothing of a series that sends less than once in {steps} steps"
+                )
+            }
+        };
+        lines.push(line?)?;
+    }
+    Ok(())
 }
 
 /// Adds where and why a table is refused.
