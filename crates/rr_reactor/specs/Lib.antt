@@ -1,5 +1,6 @@
 pub mod Order
 pub mod Limits
+pub mod Promises
 pub mod Watch
 pub mod Pace
 pub mod Connection

@@ -1,5 +1,5 @@
 -- What connections may take.
-use Rattle.std.specs.Prelude.{ℕ, ◌-◌, ◌/◌, Bool, ◌||◌, max, min, nat_le, nat_lt, if◌then◌else◌}
+use Rattle.std.specs.Prelude.{ℕ, ◌-◌, ◌/◌, Bool, ◌||◌, max, min, Option, Some, None, nat_le, nat_lt, if◌then◌else◌}
 use Rattle.rr_reactor.specs.declared.limits.Limits.{Limits}
 use Rattle.rr_reactor.specs.declared.limits.TheConstants.{PART, SMALL}
 use Rattle.rr_reactor.specs.declared.order.Rank.{Rank}
@@ -26,6 +26,11 @@ may_read limits (Behind least) all own needs = if nat_le needs (min (room limits
 -- an answer fits, or is small
 abbrev pub takes : Limits → ℕ → ℕ → Bool
 takes limits all size = nat_le size (free limits all) || nat_le size SMALL
+
+-- what is promised for an answer of at most this size: nothing if that is small, all of it if it fits
+abbrev pub promise : Limits → ℕ → ℕ → Option ℕ
+promise limits all size =
+    if nat_le size SMALL then Some 0 else (if nat_le size (free limits all) then Some size else None)
 
 -- less is free than an answer wanted, or less room is left than a quarter of all
 abbrev pub must_let_go : Limits → ℕ → ℕ → Bool

@@ -5,16 +5,18 @@ ghost use Rattle.std.specs.Bool.{OnTrue};
 ghost use Rattle.rr_reactor.specs.Connections.{count_of, most_of};
 
 use crate::connection::{Connection, Progress};
-use crate::item::{Item, Outcome, Work};
+use crate::excuse::{BEHIND, excuse, no_room};
+use crate::item::{Answer, Item, Outcome, Work};
 use crate::limits::Limits;
 use crate::order::{Rank, Waiter};
 use crate::protocol::Protocol;
+use crate::queues::Returned;
 use crate::socket::Socket;
 use crate::watch::first_to_go;
-use rr_connection::{Field, Reply, Value};
 use slab::Slab;
 use std::alloc::{AllocError, Global};
 use std::collections::VecDeque;
+use std::mem;
 
 /// The most bytes that are read at a time.
 const SCRATCH: usize = 64 * 1024;
@@ -35,6 +37,10 @@ pub struct Connections<S> {
     pub(crate) limits: Limits,
     pub(crate) slab: Slab<Connection<S>>,
     pub(crate) held: usize,
+    /// How many bytes are promised for answers that others make, as was last told.
+    promised: usize,
+    /// How many were promised for those that came back since.
+    redeemed: usize,
     scratch: Vec<u8>,
     asked: Asked,
     /// The keys of those that can advance at once.
@@ -53,44 +59,6 @@ pub struct Connections<S> {
     fetches_behind: bool,
 }
 
-/// Why nothing was done when a queue is behind.
-const BEHIND: &[u8] = b"{\"error\":\"the node is behind: nothing was written\"}\n";
-
-/// Sent in place of an answer for which there is no room.
-const NO_ROOM: &[u8] = b"{\"error\":\"the node holds too many answers\"}\n";
-
-/// A short answer, in place of one that isn't given.
-fn excuse(alloc: Global, status: u16, text: &[u8]) -> Result<Outcome, AllocError> {
-    let mut fields = Vec::with_capacity(alloc, 2)?;
-    fields.push(Field {
-        name: b"content-type",
-        value: Value::Constant(b"application/json"),
-    })?;
-    if status == 503 {
-        fields.push(Field {
-            name: b"retry-after",
-            value: Value::Constant(b"1"),
-        })?;
-    }
-    Ok(Outcome::Reply(Reply {
-        status,
-        fields,
-        body: Vec::from_slice(alloc, text)?,
-        closes: false,
-    }))
-}
-
-/// What is answered in place of what doesn't fit: 503 if something was asked for; what was done
-/// keeps its status.
-fn no_room(alloc: Global, outcome: &Outcome) -> Outcome {
-    let status = match outcome {
-        Outcome::Reply(reply) if reply.status == 200 => 503,
-        Outcome::Reply(reply) => reply.status,
-        _ => return Outcome::Nothing,
-    };
-    excuse(alloc, status, NO_ROOM).unwrap_or(Outcome::Nothing)
-}
-
 impl<S: Socket> Connections<S> {
     /// No connections.
     pub fn new(alloc: Global, limits: Limits) -> Result<Connections<S>, AllocError> {
@@ -103,6 +71,8 @@ impl<S: Socket> Connections<S> {
             limits,
             slab: Slab::new(alloc),
             held: 0,
+            promised: 0,
+            redeemed: 0,
             scratch: Vec::from_elem(alloc, 0, SCRATCH)?,
             asked,
             ready: VecDeque::with_capacity(alloc, limits.connections)?,
@@ -135,6 +105,25 @@ impl<S: Socket> Connections<S> {
     /// The bytes of memory held for them.
     pub fn held(&self) -> usize {
         self.held
+    }
+
+    /// The bytes of memory held for them, and promised for their answers.
+    pub(crate) fn all(&self) -> usize {
+        self.held.saturating_add(self.promised)
+    }
+
+    /// How many bytes were promised for the answers that came back since the last call.
+    pub(crate) fn take_redeemed(&mut self) -> usize {
+        mem::take(&mut self.redeemed)
+    }
+
+    /// Notes how many bytes are promised for answers, and the most for which there was no room if
+    /// one wasn't made.
+    pub(crate) fn set_promised(&mut self, promised: usize, lacked: Option<usize>) {
+        self.promised = promised;
+        if let Some(wanted) = lacked {
+            self.lack(wanted);
+        }
     }
 
     /// Whether some can advance at once.
@@ -192,7 +181,7 @@ impl<S: Socket> Connections<S> {
     /// The answer, or if it doesn't fit, one that says so.
     fn fitting(&mut self, outcome: Outcome) -> Outcome {
         let wanted = outcome.held();
-        if self.limits.takes(self.held, wanted) {
+        if self.limits.takes(self.all(), wanted) {
             return outcome;
         }
         self.lack(wanted);
@@ -246,8 +235,15 @@ impl<S: Socket> Connections<S> {
             return Progress::Waits;
         };
         let others = self.held.saturating_sub(connection.held());
+        let promised = self.promised;
         let scratch = self.scratch.as_mut_slice();
-        let progress = connection.pump(scratch, &self.limits, rank, others, now);
+        let progress = connection.pump(
+            scratch,
+            &self.limits,
+            rank,
+            others.saturating_add(promised),
+            now,
+        );
         let waiter = match progress {
             Progress::Waits => connection.waiter(key),
             _ => None,
@@ -265,8 +261,7 @@ impl<S: Socket> Connections<S> {
             Progress::Waits => {}
             Progress::Goes => self.keep_ready(key),
             Progress::Work(work) if self.is_refused(&work) => {
-                let outcome = excuse(self.alloc, 503, BEHIND);
-                self.take_answer(key, outcome.unwrap_or(Outcome::Nothing));
+                self.take_answer(key, excuse(self.alloc, 503, BEHIND));
                 self.keep_ready(key);
             }
             Progress::Work(work) => self.put(Item {
@@ -321,6 +316,15 @@ impl<S: Socket> Connections<S> {
     pub fn answer(&mut self, key: usize, outcome: Outcome, now: u64) {
         self.take_answer(key, outcome);
         self.pump(key, now);
+    }
+
+    /// Takes an answer back, for which memory was promised, and advances its connection.
+    pub(crate) fn take_back(&mut self, returned: Returned, now: u64) {
+        let Returned { answer, promised } = returned;
+        let Answer { key, outcome } = answer;
+        self.promised = self.promised.saturating_sub(promised);
+        self.redeemed = self.redeemed.saturating_add(promised);
+        self.answer(key, outcome, now);
     }
 
     /// Closes one, and forgets it.

@@ -17,7 +17,9 @@
 //! file descriptor. When a queue is behind, a request is answered 503 at once.
 //!
 //! The memory of connections is bounded by [`Limits::held`], except for another 8 KiB that each may
-//! send, and its answers of at most 8 KiB, of which some 64 KiB may wait. Instead of a longer answer
+//! send, and its answers of at most 8 KiB, of which some 64 KiB may wait. Whoever is to make a longer
+//! one has memory for it promised first ([`Promises`]), so that what is made, and what waits for the
+//! reactor, counts too; the reactor copies one at a time beyond that. Instead of a longer answer
 //! that doesn't fit, a short one is sent: 503, unless something was done, whose status stays. A
 //! request is read while all the bytes that it needs are left below [`Limits::received`] and no
 //! waiter needs less, so large bodies leave room for small ones. A body whose head doesn't give its
@@ -36,10 +38,12 @@
 mod acceptor;
 mod connection;
 mod connections;
+mod excuse;
 mod item;
 mod limits;
 mod order;
 mod pace;
+mod promises;
 mod protocol;
 mod queue;
 mod queues;
@@ -50,10 +54,12 @@ mod watch;
 
 pub use connection::Connection;
 pub use connections::{Asked, Connections};
+pub use excuse::no_room_reply;
 pub use item::{Answer, Item, Outcome, Work};
 pub use limits::Limits;
 pub use order::{Rank, Waiter};
 pub use pace::{Holder, Pace};
+pub use promises::Promises;
 pub use protocol::Protocol;
 pub use queue::Queue;
 pub use queues::Queues;

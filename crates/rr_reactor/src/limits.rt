@@ -1,7 +1,7 @@
 //! What connections may take.
 
 ghost use Rattle.std.specs.Prelude.{◌≡◌};
-ghost use Rattle.rr_reactor.specs.Limits.{free, is_behind, little, may_read, must_let_go, room, takes};
+ghost use Rattle.rr_reactor.specs.Limits.{free, is_behind, little, may_read, must_let_go, promise, room, takes};
 
 use crate::order::Rank;
 
@@ -100,6 +100,21 @@ impl Limits {
         ensures { result ≡ takes self.now all size }
     {
         size <= self.free(all) || size <= SMALL
+    }
+
+    /// How many bytes to promise for an answer that takes at most `size` while it is made, when
+    /// `all` are held and promised: that many if they fit, none for at most 8 KiB. None if the
+    /// answer isn't to be made.
+    pub fn promise(&self, all: usize, size: usize) -> Option<usize>
+        ensures { result ≡ promise self.now all size }
+    {
+        if size <= SMALL {
+            Some(0)
+        } else if size <= self.free(all) {
+            Some(size)
+        } else {
+            None
+        }
     }
 
     /// Whether stalled connections are let go when `all` bytes are held, some had no room, and an

@@ -2,11 +2,10 @@
 
 use crate::acceptor::{Accepted, Acceptor, Kind};
 use crate::connections::Connections;
-use crate::item::Answer;
 use crate::limits::Limits;
 use crate::protocol::Protocol;
 use crate::queue::Load;
-use crate::queues::Queues;
+use crate::queues::{Queues, Returned};
 use mio::net::TcpStream;
 use mio::{Events, Interest, Poll, Token, Waker};
 use rr_connection::{HttpConnection, LineConnection};
@@ -41,7 +40,7 @@ pub struct Reactor {
     lines: Option<Acceptor>,
     queues: Arc<Queues>,
     connections: Connections<TcpStream>,
-    answers: Vec<Answer>,
+    answers: Vec<Returned>,
     swept: u64,
 }
 
@@ -130,7 +129,7 @@ impl Reactor {
             poll,
             http,
             lines,
-            queues: Arc::new(alloc, Queues::new(alloc, limits.connections, waker)?)?,
+            queues: Arc::new(alloc, Queues::new(alloc, limits, waker)?)?,
             connections: Connections::new(alloc, limits)?,
             answers: Vec::with_capacity(alloc, limits.connections)?,
             swept: 0,
@@ -177,8 +176,8 @@ impl Reactor {
         let queues: &Queues = &self.queues;
         queues.exchange_answers(rt, &mut self.answers);
         for _ in 0..self.answers.len() {
-            if let Some(Answer { key, outcome }) = self.answers.pop() {
-                self.connections.answer(key, outcome, now);
+            if let Some(returned) = self.answers.pop() {
+                self.connections.take_back(returned, now);
             }
         }
     }
@@ -193,7 +192,7 @@ impl Reactor {
         }
     }
 
-    /// Hands on what was asked for, and notes which queues are behind.
+    /// Hands on what was asked for, and notes which queues are behind and what is promised.
     fn hand_on<R: Wait>(&mut self, rt: &R, now: u64) {
         let queues: &Queues = &self.queues;
         let asked = self.connections.asked();
@@ -202,7 +201,9 @@ impl Reactor {
         let writes = is_behind(&self.limits, queues.writes.load(rt), now);
         let fetches = is_behind(&self.limits, queues.fetches.load(rt), now);
         self.connections.set_behind(writes, fetches);
-        queues.tell(self.connections.len(), self.connections.held());
+        let (held, taken) = (self.connections.held(), self.connections.take_redeemed());
+        let (promised, lacked) = queues.tell(rt, self.connections.len(), held, taken);
+        self.connections.set_promised(promised, lacked);
     }
 
     /// Waits until something is ready, and advances it.

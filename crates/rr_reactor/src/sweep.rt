@@ -27,7 +27,7 @@ impl<S: Socket> Connections<S> {
             return;
         };
         for _ in 0..LET_GO {
-            if !self.limits.must_let_go(self.held, wanted) {
+            if !self.limits.must_let_go(self.all(), wanted) {
                 return;
             }
             let Some(holder) = self.first_holder(now) else {
