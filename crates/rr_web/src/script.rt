@@ -25,13 +25,10 @@ const STATE = [
     ["rr_series", "series"],
     ["rr_cells", "cells"],
     ["rr_connections", "connections"],
-    ["rr_connections_total", "connections"],
     ["rr_points_total", "points"],
     ["rr_samples_total", "samples"],
     ["rr_refused_total", "refused"],
     ["rr_past_horizon_total", "past the horizon"],
-    ["rr_pulls_seconds", "pulls", " s"],
-    ["rr_save_seconds", "save", " s"],
     ["rr_journal_sync_age_seconds", "since the last sync", " s"],
 ];
 
@@ -39,8 +36,10 @@ const STATE = [
 const chosen = new Map();
 // The last key of the list, behind which more are asked for.
 let lastKey = null;
-// The number of the last request for all rows: what an older one brings isn't shown.
+// The number of the last request for all rows, and of the last one that has ended: what an older one
+// brings isn't shown.
 let turn = 0;
+let ended = 0;
 
 const at = (id) => document.getElementById(id);
 
@@ -257,21 +256,28 @@ function unpoint() {
 
 // ---- turns
 
+// Why something isn't there; a refusal of a key names it.
+function reasonOf(error, key) {
+    if (error instanceof TypeError) return "The node doesn't answer.";
+    return key === undefined ? error.message : `${key}: ${error.message}`;
+}
+
+// Asks for all that is chosen. A key that is refused hides no other, and a silent node no old rows.
 async function refresh() {
     const own = ++turn;
     writeAddress();
-    try {
-        const keys = [...chosen.keys()];
-        const rows = await Promise.all(keys.map(rowsOf));
-        if (own !== turn) return;
-        keys.forEach((key, place) => { chosen.get(key).rows = rows[place]; });
-        await showState();
-        at("note").textContent = keys.length ? "" : "Choose a series.";
-    } catch (error) {
-        const isSilent = error instanceof TypeError;
-        at("note").textContent = isSilent ? "The node doesn't answer." : error.message;
-    }
-    if (own === turn) plot();
+    const keys = [...chosen.keys()];
+    const [state, ...answers] = await Promise.allSettled([showState(), ...keys.map(rowsOf)]);
+    if (own !== turn) return;
+    ended = own;
+    const reasons = new Set();
+    if (state.reason) reasons.add(reasonOf(state.reason));
+    answers.forEach(({ value, reason }, place) => {
+        if (reason) reasons.add(reasonOf(reason, keys[place]));
+        if (!(reason instanceof TypeError)) chosen.get(keys[place]).rows = value ?? [];
+    });
+    at("note").textContent = [...reasons].join("; ") || (keys.length ? "" : "Choose a series.");
+    plot();
 }
 
 function tell(error) {
@@ -286,7 +292,7 @@ function begin() {
     at("plot").addEventListener("pointermove", point);
     at("plot").addEventListener("pointerleave", unpoint);
     setInterval(() => {
-        if (at("live").checked && !document.hidden) refresh();
+        if (at("live").checked && !document.hidden && ended === turn) refresh();
     }, REFRESH_SECONDS * 1000);
     listKeys(null).catch(tell);
     refresh();
