@@ -4,6 +4,7 @@ pub mod Parts
 pub mod Precision
 pub mod Reply
 pub mod Fetches
+pub mod Fetch
 pub mod Json
 pub mod JsonRows
 pub mod Unquoted

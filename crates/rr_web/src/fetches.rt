@@ -135,7 +135,7 @@ fn words_in(alloc: Global, query: &[u8], now: i64) -> Result<Option<Words>, Allo
 }
 
 /// The request of a query.
-fn request_in(
+pub(crate) fn request_in(
     alloc: Global,
     query: &[u8],
     now: i64,
@@ -153,7 +153,7 @@ fn request_in(
 }
 
 /// The rows of a request, in a form.
-fn rows_reply<A: Cells>(
+pub(crate) fn rows_reply<A: Cells>(
     alloc: Global,
     form: Form,
     request: &Request,

@@ -3,6 +3,7 @@
 //! ```text
 //! target ── target_parts ──> a path and a query
 //! method and path ── asked_by ──> Ask
+//! request ── fetch_of ──> a Fetch, if it is one that can be answered, and how much memory that takes
 //! request that reads ── read_reply, by a reader ──> Reply: a status, a kind of text, and the text
 //!     the rows of a fetch, CSV or JSON; the keys of series, a line each; numbers, health; a page
 //! request of a peer ── part_query ──> what it asks for
@@ -21,6 +22,7 @@
 mod answers;
 mod ask;
 mod family;
+mod fetch;
 mod fetches;
 mod fixed;
 mod json;
@@ -46,6 +48,7 @@ mod texts;
 mod writes;
 
 pub use ask::{Ask, asked_by};
+pub use fetch::{Fetch, fetch_of};
 pub use node_metrics::{
     AnswerCounts, ArchiveRows, NodeMetrics, RefusedLines, archive_rows, metrics_text,
 };
