@@ -26,6 +26,7 @@ mod link;
 mod listening;
 mod loading;
 mod logbook;
+mod made;
 mod mailbox;
 mod numbers;
 mod origins;

@@ -2,6 +2,7 @@
 
 use crate::clock::SystemClock;
 use crate::node::giving::{Giver, JournalParts};
+use crate::node::made::Made;
 use crate::node::shared::{Answered, Shared};
 use rr_command_line::PRODUCT;
 use rr_connection::{Reply, Request};
@@ -9,7 +10,7 @@ use rr_desk::Reader;
 use rr_host::Clock;
 use rr_packed::PackedArchive;
 use rr_reactor::{Answer, Item, Outcome, Queues, Work};
-use rr_web::{Ask, asked_by, read_reply, response_of, target_parts};
+use rr_web::{Ask, asked_by, fetch_of, read_reply, response_of, target_parts};
 use std::alloc::{AllocError, Global};
 use std::sync::Wait;
 use std::time::Duration;
@@ -38,7 +39,13 @@ impl Handler {
         }
     }
 
-    /// The answer to a request.
+    /// The second up to which `last` counts: the next one.
+    fn next_second<T: time::Clock>(&self, rt: &T) -> i64 {
+        let mut clock = SystemClock::new(rt);
+        clock.now().div_euclid(1_000_000_000).saturating_add(1)
+    }
+
+    /// The answer to a request other than a fetch that can be answered.
     fn reply<T: JournalParts + Eprint + Wait + time::Clock>(
         &mut self,
         rt: &T,
@@ -67,9 +74,7 @@ impl Handler {
             _ => Vec::new(self.alloc),
         };
         let failure = self.failure();
-        let mut clock = SystemClock::new(rt);
-        // The next second, up to which `last` counts.
-        let now = clock.now().div_euclid(1_000_000_000).saturating_add(1);
+        let now = self.next_second(rt);
         let reply = read_reply(
             self.alloc,
             request,
@@ -81,31 +86,60 @@ impl Handler {
         response_of(self.alloc, reply, PRODUCT)
     }
 
-    /// The outcome of an item. If memory runs out or a file can't be read, its connection is
-    /// closed.
-    fn outcome<T: JournalParts + Eprint + Wait + time::Clock>(
+    /// Memory for an answer of at most this many bytes, if it is promised.
+    fn promise<T: Wait>(&self, rt: &T, size: usize) -> Option<usize> {
+        let queues: &Queues = &self.shared.queues;
+        queues.promise(rt, size)
+    }
+
+    /// What is made of a request other than a fetch that can be answered: it was made first, and is
+    /// 503 if there is no room for it.
+    fn answer_other<T: JournalParts + Eprint + Wait + time::Clock>(
         &mut self,
         rt: &T,
-        work: &Work,
-    ) -> Outcome {
-        let Work::Request(request) = work else {
-            return Outcome::Nothing;
+        request: &Request,
+    ) -> Made {
+        let Ok(reply) = self.reply(rt, request) else {
+            return Made::nothing();
         };
-        match self.reply(rt, request) {
-            Ok(reply) => Outcome::Reply(reply),
-            Err(_) => Outcome::Nothing,
+        match self.promise(rt, reply.body.capacity()) {
+            Some(promised) => Made {
+                outcome: Outcome::Reply(reply),
+                promised,
+            },
+            None => Made::refused(self.alloc),
         }
+    }
+
+    /// What is made of an item: 503 for a fetch whose answer isn't promised memory. If memory runs
+    /// out or a file can't be read, its connection is closed.
+    fn made<T: JournalParts + Eprint + Wait + time::Clock>(&mut self, rt: &T, work: &Work) -> Made {
+        let Work::Request(request) = work else {
+            return Made::nothing();
+        };
+        let now = self.next_second(rt);
+        let fetch = match fetch_of(self.alloc, request, now, self.reader.schema()) {
+            Ok(Some(fetch)) => fetch,
+            Ok(None) => return self.answer_other(rt, request),
+            Err(_) => return Made::nothing(),
+        };
+        let room = fetch.room(self.alloc).unwrap_or(usize::MAX);
+        let Some(promised) = self.promise(rt, room) else {
+            return Made::refused(self.alloc);
+        };
+        let reply = fetch.reply(self.alloc, &mut self.reader);
+        Made::of_reply(self.alloc, reply, promised)
     }
 
     /// Answers an item.
     fn answer<T: JournalParts + Eprint + Wait + time::Clock>(&mut self, rt: &T, item: &Item) {
-        let outcome = self.outcome(rt, &item.work);
+        let Made { outcome, promised } = self.made(rt, &item.work);
         let key = item.key;
         let answer = Answer { key, outcome };
         let answered: &Answered = &self.shared.answered;
         answered.count_answer(&answer);
         let queues: &Queues = &self.shared.queues;
-        queues.answer(rt, answer);
+        queues.answer_promised(rt, answer, promised);
     }
 
     /// Answers what comes, until the node ends.
