@@ -37,6 +37,10 @@ xff_den = 1
 GREETING = b"HTTP/1.1 204 No Content\r\nrr-journal-id: " + b"ab" * 16 + b"\r\nrr-journal-end: 1000\r\n\r\n"
 
 
+# The requests that a peer with empty answers got.
+EMPTY = []
+
+
 def silent(stream):
     """Takes what comes, and says nothing."""
     while stream.recv(65536):
@@ -70,6 +74,13 @@ def gone(stream):
     """Greets as a node does, and has nothing."""
     while request := stream.recv(65536):
         stream.sendall(GREETING if b"from=" not in request else b"HTTP/1.1 410 Gone\r\ncontent-length: 0\r\n\r\n")
+
+
+def empty(stream):
+    """Greets as a node does, and answers with nothing."""
+    while request := stream.recv(65536):
+        EMPTY.append(request)
+        stream.sendall(GREETING if b"from=" not in request else b"HTTP/1.1 200 OK\r\ncontent-length: 0\r\n\r\n")
 
 
 def serve(how):
@@ -131,12 +142,12 @@ def run(program, folder, nodes):
     good = Node(program, folder, "good", ports[0], 1)
     nodes.append(good)
     nodes.append(Node(program, folder, "other", ports[1], 11, rows=3000))
-    # This one writes under the origins of the node under test, as a copied directory would.
+    # This one writes under the origins of the node under test, as a copied directory would, and more than that does.
     twin = Node(program, folder, "twin", ports[2], 101)
     nodes.append(twin)
-    for minute in range(3):
-        twin.curl("/write", f"t v={minute}i {minute * 60}000000000\n".encode())
-    peers = [ports[4], serve(silent), serve(garbage), serve(endless), serve(lying), serve(gone), ports[1], ports[2], ports[0]]
+    twin.curl("/write", "".join(f"t v={minute}i {minute * 60}000000000\n" for minute in range(100)).encode())
+    peers = [ports[4], serve(silent), serve(garbage), serve(endless), serve(lying), serve(gone), ports[1], ports[2],
+             serve(empty), ports[0]]
     node = Node(program, folder, "node", ports[3], 101, peers)
     nodes.append(node)
     slowest = 0
@@ -157,14 +168,16 @@ def run(program, folder, nodes):
     if slowest > 0.5:
         fail("that is too long")
     wanted = {f"peer {number}: {name}" for number, name in enumerate(
-        ["BadAddress", "ReadFailed", "BadAnswer", "BadAnswer", "Damaged", "Gone", "SchemaDiffers", "own origin"], 1)}
+        ["BadAddress", "ReadFailed", "BadAnswer", "BadAnswer", "Damaged", "Gone", "SchemaDiffers", "own origin",
+         "BadAnswer"], 1)}
     # After a part of its journal that isn't one, the peer that lies is asked for its checkpoint.
     wanted.add("peer 5: BadAnswer")
     check("what is told of the peers", sorted(node.told()), sorted(wanted))
     check("what the peer of another schema tells", nodes[1].told(),
           {"rr: a peer asks for the journal with another schema"})
     ups = re.findall(r"^rr_peer_up\{.*\} (\d)$", node.curl("/metrics")[0], re.M)
-    check("rr_peer_up", ups, list("000000011"))
+    check("rr_peer_up", ups, list("0000000101"))
+    check("a peer with empty answers is called with growing pauses", len(EMPTY) <= 14, True)
 
 
 def main():

@@ -15,6 +15,8 @@ use Rattle.rr_replication.specs.declared.fault.PartFault.TheVariants.{Memory}
 use Rattle.rr_replication.specs.declared.following.Following.{Following}
 use Rattle.rr_replication.specs.declared.following.Next.{Next}
 use Rattle.rr_replication.specs.declared.following.Next.TheVariants.{More, UpToDate}
+use Rattle.rr_replication.specs.declared.pace.Reached.{Reached}
+use Rattle.rr_replication.specs.declared.pace.Reached.TheVariants as pace
 use Rattle.rr_replication.specs.declared.peer_fault.PeerFault.{PeerFault}
 use Rattle.rr_replication.specs.declared.position.Position.{Position}
 use Rattle.rr_replication.specs.declared.position.Position.TheVariants.{Journal, Newest, Checkpoint}
@@ -49,6 +51,13 @@ is_in_checkpoint (Some Newest) = true
 is_in_checkpoint (Some (Checkpoint begins place)) = true
 is_in_checkpoint (Some (Journal place)) = false
 is_in_checkpoint None = false
+
+-- where a node is in the store of its peer, once that was greeted
+abbrev pub reached_by : Option Position → Option Reached
+reached_by None = None
+reached_by (Some (Journal place)) = Some (pace.Journal place.offset)
+reached_by (Some Newest) = Some (pace.Checkpoint 0)
+reached_by (Some (Checkpoint begins place)) = Some (pace.Checkpoint place.offset)
 
 -- ---- what is asked for
 

@@ -5,3 +5,4 @@ pub mod Position
 pub mod Following
 pub mod Files
 pub mod Laws
+pub mod Pace

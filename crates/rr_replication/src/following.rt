@@ -1,6 +1,6 @@
 //! How a node follows the journal of a peer.
 
-ghost use Rattle.std.specs.Prelude.{◌≡◌, ◌==◌, ◌||◌, true, nat_eq, All, Err, IfOk, IfSome, None, OnErr, OnOk, Some};
+ghost use Rattle.std.specs.Prelude.{◌≡◌, ◌==◌, ◌||◌, [], true, nat_eq, All, Err, IfOk, IfSome, None, OnErr, OnOk, Some};
 ghost use Rattle.std.specs.Cmp.Lexicographic.{pointwise};
 ghost use Rattle.std.specs.List.{find};
 ghost use Rattle.rr_cells.specs.CellBounds.{IsCellOf};
@@ -10,6 +10,7 @@ ghost use Rattle.rr_replication.specs.Reading.{peer_state};
 
 use crate::answer::PeerAnswer;
 use crate::fault::PartFault;
+use crate::pace::Reached;
 use crate::peer_fault::PeerFault;
 use crate::position::{Position, greeting_target};
 use crate::records::read_part;
@@ -96,8 +97,8 @@ fn cursor_of(cursors: &[Cursor], id: [u8; ID_LEN]) -> Option<Cursor>
 impl Following {
     ghost use Rattle.rr_replication.specs.declared.position.Position.TheVariants.{Journal, Newest};
     ghost use Rattle.rr_replication.specs.declared.following.Next.TheVariants.{More};
-    ghost use Rattle.rr_replication.specs.declared.peer_fault.PeerFault.TheVariants.{Gone};
-    ghost use Rattle.rr_replication.specs.Following.{GreetsAnew, IsAtEnd, IsBegun, IsGone, IsGreeted, IsNew, IsReadOn, after_journal, asked_checkpoint, asked_place, asked_position, asked_target, asks_newest, beginning_after, is_in_checkpoint, known_place, places_of};
+    ghost use Rattle.rr_replication.specs.declared.peer_fault.PeerFault.TheVariants.{BadAnswer, Gone};
+    ghost use Rattle.rr_replication.specs.Following.{GreetsAnew, IsAtEnd, IsBegun, IsGone, IsGreeted, IsNew, IsReadOn, after_journal, asked_checkpoint, asked_place, asked_position, asked_target, asks_newest, beginning_after, is_in_checkpoint, known_place, places_of, reached_by};
 
     /// Follows a peer from where the journal with its id was read up to, if that is among `known`,
     /// else from the beginning.
@@ -129,6 +130,18 @@ impl Following {
             self.position,
             Some(Position::Newest) | Some(Position::Checkpoint { .. })
         )
+    }
+
+    /// Where the node is in the store of the peer, once that was greeted.
+    pub fn reached(&self) -> Option<Reached>
+        ensures { result ≡ reached_by self.now.position }
+    {
+        match self.position {
+            None => None,
+            Some(Position::Journal(place)) => Some(Reached::Journal(place.offset)),
+            Some(Position::Newest) => Some(Reached::Checkpoint(0)),
+            Some(Position::Checkpoint { place, .. }) => Some(Reached::Checkpoint(place.offset)),
+        }
     }
 
     /// What the next request asks for.
@@ -336,7 +349,7 @@ impl Following {
     /// nor a checkpoint, or loses what is asked for again after a checkpoint was begun and before
     /// the journal was continued; as [`PartFault`] says if its bytes don't continue from here or
     /// mean nothing: then the newest checkpoint is asked for next; as `BadAnswer` if no node
-    /// answers so; and as `Memory`. After a refusal no cells are added.
+    /// answers so, as with 200 and no byte; and as `Memory`. After a refusal no cells are added.
     pub fn take(
         &mut self,
         answer: &PeerAnswer,
@@ -364,7 +377,11 @@ impl Following {
         ensures of_schema { OnOk result (All (λ c. IsCellOf schema.now (owned_cell c)) cells.old.items
             → All (λ c. IsCellOf schema.now (owned_cell c)) cells.new.items) }
         ensures refused { OnErr result (cells.new.items ≡ cells.old.items) }
+        ensures empty { answer.now.status ≡ 200 → answer.now.body.items ≡ [] → result ≡ Err BadAnswer }
     {
+        if answer.status == 200 && answer.body.is_empty() {
+            return Err(PeerFault::BadAnswer);
+        }
         match self.position {
             Some(position) if self.is_greeted => match position {
                 Position::Journal(place) => self.take_journal(place, answer, schema, cells),

@@ -9,7 +9,7 @@
 //! A peer asks over HTTP, through a [`PeerConnection`], and [`Following`] says what it asks for
 //! next and takes the answer: first where the journal is, then the journal from where it was read
 //! up to; or the newest checkpoint, if the journal is gone or is another history, and then the
-//! journal after that.
+//! journal after that. A [`Pace`] says how long a peer that can't be followed is left alone.
 //!
 //! ```text
 //! files, end, from ── part_from ──> Bytes { file, skip, len } | Nothing | Gone
@@ -33,6 +33,7 @@ mod connection;
 mod fault;
 mod following;
 pub mod laws;
+mod pace;
 mod part;
 mod peer_fault;
 mod position;
@@ -42,6 +43,7 @@ pub use answer::{END_FIELD, ID_FIELD, PeerAnswer};
 pub use connection::PeerConnection;
 pub use fault::PartFault;
 pub use following::{Following, Next};
+pub use pace::{LONGEST_PAUSE, Pace, Reached};
 pub use part::{MAX_PART, Part, part_from};
 pub use peer_fault::PeerFault;
 pub use position::Position;

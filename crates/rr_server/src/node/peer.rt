@@ -7,7 +7,7 @@ use crate::tcp::{Half, halves};
 use rr_cells::Cell;
 use rr_journal::Cursor;
 use rr_reactor::Queues;
-use rr_replication::{Following, Next, PeerAnswer, PeerConnection, PeerFault};
+use rr_replication::{Following, Next, Pace, PeerAnswer, PeerConnection, PeerFault, Reached};
 use rr_schema::Schema;
 use std::alloc::Global;
 use std::net::{Net, TcpStream, ToSocketAddrs};
@@ -16,10 +16,6 @@ use std::time::{Clock, Duration};
 
 /// How many seconds a peer may send or take no byte, or leave a call unanswered.
 const TIMEOUT: u64 = 10;
-
-/// The longest pause in seconds before a failed peer is called again: 1, then 2, 4 and so on, up to
-/// this.
-const LONGEST_PAUSE: u64 = 64;
 
 /// Connects to peers on threads of their own. [`Net`] has associated types, which can't be shown to
 /// be safe on any thread but the first; so what the others do with the network is in this trait,
@@ -51,8 +47,10 @@ pub(crate) struct Peer {
     shared: Shared,
     /// The reason last reported for not following the peer.
     told: Option<PeerFault>,
-    /// The seconds of the next pause after a failure.
-    pause: u64,
+    /// How long it is left alone after a failure.
+    pace: Pace,
+    /// Where the node was in its store when it was last called or asked.
+    asked: Option<Reached>,
 }
 
 impl Peer {
@@ -71,7 +69,8 @@ impl Peer {
             link,
             shared,
             told: None,
-            pause: 1,
+            pace: Pace::new(),
+            asked: None,
         }
     }
 
@@ -108,11 +107,14 @@ impl Peer {
         let was_in_checkpoint = self.following.is_in_checkpoint();
         let mut cells = Vec::new(self.alloc);
         let next = self.following.take(answer, &self.schema, &mut cells)?;
-        self.pause = 1;
+        if let Some(place) = self.following.reached() {
+            self.pace.reach(place);
+        }
         let link = &self.link;
         let standing: &Standing = &link.standing;
         match next {
             Next::UpToDate => {
+                self.pace = Pace::new();
                 standing.is_read(rt);
                 self.told = None;
                 Ok(false)
@@ -129,11 +131,13 @@ impl Peer {
 
     /// Follows the peer over a connection, until the node ends or the peer can't be followed.
     fn follow<R: PeerCalling + Wait + Clock>(&mut self, rt: &R) -> Result<(), PeerFault> {
+        self.asked = self.following.reached();
         let mut connection = self.connect(rt)?;
         for _ in 0..u64::MAX {
             if self.is_halted() {
                 break;
             }
+            self.asked = self.following.reached();
             let target = self.following.target(&self.schema)?;
             let answer = connection.ask(self.link.address.as_bytes(), &target)?;
             if !self.take(rt, &answer)? {
@@ -159,13 +163,12 @@ impl Peer {
             // If this can't be printed, the peer is called again all the same.
             let _printed = eprintln!(rt; "peer {number}: {name}");
         }
-        for _ in 0..self.pause {
+        for _ in 0..self.pace.fail(self.asked) {
             if self.is_halted() {
                 return;
             }
             self.rest(rt);
         }
-        self.pause = self.pause.saturating_mul(2).min(LONGEST_PAUSE);
     }
 
     /// Follows the peer until the node ends.
