@@ -175,8 +175,12 @@ def run(program, folder, nodes):
     check("what is told of the peers", sorted(node.told()), sorted(wanted))
     check("what the peer of another schema tells", nodes[1].told(),
           {"rr: a peer asks for the journal with another schema"})
-    ups = re.findall(r"^rr_peer_up\{.*\} (\d)$", node.curl("/metrics")[0], re.M)
-    check("rr_peer_up", ups, list("0000000101"))
+    ups, own = (re.findall(rf"^{name}\{{.*\}} (\d)$", node.curl("/metrics")[0], re.M)
+                for name in ("rr_peer_up", "rr_peer_own_origin"))
+    check("rr_peer_up", ups, list("0000000001"))
+    check("rr_peer_own_origin", own, list("0000000100"))
+    check("/health", "another node writes under this one's origin" in node.curl("/health")[0], True)
+    check("keys of the peer that writes under the node's origin", node.curl("/series?prefix=t")[0], "")
     check("a peer with empty answers is called with growing pauses", len(EMPTY) <= 14, True)
 
 

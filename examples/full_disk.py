@@ -10,8 +10,10 @@ a node is a tmpfs of 24 MiB.
   there is room, all that was taken is saved by itself. The node is killed with SIGKILL: the next one has every row of
   every body that was answered 204 or, before there was room again, 500.
 - The directory is read-only at a start: the node says so and ends with status 3, and the next one has all rows.
-- No file can be made in the directory while a node runs (as another user, if this is root): no checkpoint is begun, the
-  node says so, and all bodies are still answered 204; the next node has all rows.
+- No file can be made in the directory while a node runs (as another user, if this is root): before its first line the
+  node takes none, since it can take no origin, until a file can be made; later no checkpoint is begun, the node says so,
+  and all bodies are still answered 204; the next node has all rows.
+- The directory is removed while a node runs: within two seconds bodies are answered 500, and /health is 503.
 
 Status 1: anything else happened.
 """
@@ -151,7 +153,13 @@ def no_file_is_made(program, folder):
         os.chown(data, user, user)
     node = Node(program, folder, data, user)
     try:
-        sent, statuses = [], set()
+        data.chmod(0o555)
+        status, answer = node.curl("/write", body=body(0))
+        check("a body when no origin can be named", (status, "the origin can't be recorded" in answer), (503, True))
+        check("/health", node.curl("/health")[0], 503)
+        data.chmod(0o755)
+        check("/health once one can be", http_node.within(10, lambda: node.curl("/health")[0] == 200), True)
+        sent, statuses = [0], {node.write(0)}
         data.chmod(0o555)
         while "Permission denied" not in node.said():
             sent.append(len(sent))
@@ -169,6 +177,18 @@ def no_file_is_made(program, folder):
         check(f"rows that are lost, of {len(sent):,} of each series", node.lost(sent), 0)
     finally:
         data.chmod(0o755)
+        node.kill()
+
+
+def folder_is_removed(program, folder):
+    node = Node(program, folder, pathlib.Path(folder, "removed"))
+    try:
+        check("a body", node.write(0), 204)
+        shutil.rmtree(node.data)
+        check("bodies once the folder is removed", http_node.within(2, lambda: node.write(1) == 500), True)
+        check("the next one", node.write(2), 500)
+        check("/health", node.curl("/health")[0], 503)
+    finally:
         node.kill()
 
 
@@ -198,6 +218,7 @@ def main():
     with tempfile.TemporaryDirectory() as folder:
         os.chmod(folder, 0o755)
         no_file_is_made(program, folder)
+        folder_is_removed(program, folder)
 
 
 if __name__ == "__main__":

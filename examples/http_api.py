@@ -295,6 +295,11 @@ def halves(node):
         fail("halves of requests are not ended in time")
 
 
+def taken(node):
+    """The names of the origins that starts of a node have taken."""
+    return sorted(file.name for file in node.data.glob("origin-*"))
+
+
 def kept(program, folder):
     """What is acknowledged is there after a kill, whoever wrote it, and each start has an origin of its own."""
     node = Node(program, folder)
@@ -310,7 +315,14 @@ def kept(program, folder):
             node.kill()
             node.start()
             check("what is there after a kill", listed(node, "prefix=kept"), (200, [f"kept,n={name} v" for name in names]))
-            check("its origin", counts_of(node)[f'rr_info{{version="2",origin="{origin}"}}'], 1)
+            check("it has taken no origin", counts_of(node).get('rr_info{version="2"}'), 1)
+            node.connect_lines().close()
+            check("a body without lines", node.curl("/write", body=b"")[0], 204)
+            check("origins that are taken", taken(node), [f"origin-{it:05}" for it in range(1, origin)])
+            check("a write", node.curl("/write", body=b"kept,n=00 v=1i 60000000000\n")[0], 204)
+            check("origins that are taken then", taken(node), [f"origin-{it:05}" for it in range(1, origin + 1)])
+            name = f'rr_info{{version="2",origin="{origin}"}}'
+            check("its origin", within(5, lambda: counts_of(node).get(name) == 1), True)
         run = subprocess.run(node.words, capture_output=True, text=True, timeout=30, check=False)
         check("a second one over its directory", (run.returncode, run.stderr), (3, f"rr: {node.data}: in use\n"))
         node.is_well("a second one")

@@ -113,6 +113,9 @@ class Node:
     def connect(self, timeout=30):
         return socket.create_connection(("127.0.0.1", self.http), timeout=timeout)
 
+    def connect_lines(self, timeout=30):
+        return socket.create_connection(("127.0.0.1", self.lines), timeout=timeout)
+
     def curl(self, path, *words, body=None):
         """The status and the text of the answer that curl gets."""
         if body is not None:

@@ -4,3 +4,4 @@ pub mod Refusals
 pub mod Taking
 pub mod Peers
 pub mod Pieces
+pub mod Taken

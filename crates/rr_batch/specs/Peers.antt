@@ -1,5 +1,5 @@
 -- The cells that a peer brings, and the record of how far its journal was read.
-use Rattle.std.specs.Prelude.{◌≡◌, ℕ, List, [], ◌∷◌, Option, fold, if◌then◌else◌}
+use Rattle.std.specs.Prelude.{◌≡◌, ◌==◌, ◌&&◌, ℕ, nat_le, Bool, List, [], ◌∷◌, Option, fold, if◌then◌else◌}
 use Rattle.std.specs.List.{AllByRecursion}
 use Rattle.rr_cells.specs.declared.cell.Cell.{Cell}
 use Rattle.rr_cells.specs.declared.op.Op.TheVariants.{Join}
@@ -11,6 +11,10 @@ use Rattle.rr_journal.specs.declared.cursor.Cursor.{Cursor}
 use Rattle.rr_journal.specs.Body.{HasJoined, raw_text}
 use Rattle.rr_journal.specs.Keeping.{Committed}
 use Rattle.rr_journal.specs.Text.{batch_of}
+
+-- a cell is of this origin, under a number that isn't below the next one
+abbrev pub is_unwritten : ℕ → ℕ → Cell → Bool
+is_unwritten origin next c = c.origin == origin && nat_le next c.contribution.version
 
 -- a cell is joined, if it is one of the keeper's schema
 abbrev pub joined_if : KeeperState → Cell → KeeperState

@@ -1,8 +1,9 @@
 //! What a peer brings: cells, to be joined, and how far its journal was read, to be recorded.
 
 ghost use Rattle.std.specs.Prelude.{◌≡◌, OnOk, fold};
+ghost use Rattle.std.specs.List.{list_any};
 ghost use Rattle.rr_journal.specs.Keeping.{Grows};
-ghost use Rattle.rr_batch.specs.Peers.{RecordsCursor, joined_if, joined_to};
+ghost use Rattle.rr_batch.specs.Peers.{RecordsCursor, is_unwritten, joined_if, joined_to};
 
 use crate::origin::out_of_memory;
 use rr_archive::Cells;
@@ -10,7 +11,26 @@ use rr_cells::Cell;
 use rr_commit::ChangesFault;
 use rr_desk::Keeper;
 use rr_journal::{Cursor, Journal, Record, commit, encode};
+use rr_schema::Origin;
 use std::alloc::{AllocError, Global};
+
+/// Whether a cell is of this origin, under a number that isn't below the next one.
+fn is_unwritten(cell: &Cell, origin: Origin, next: u64) -> bool
+    ensures { result ≡ is_unwritten origin next cell.now }
+{
+    cell.origin == origin && cell.contribution.version >= next
+}
+
+/// Whether a peer brings a cell of a node's own origin that the node never wrote, given the number
+/// of its next sample: then another node writes under the same origin. Such cells may not be
+/// joined. The cost is linear in the cells.
+pub fn are_unwritten(cells: &[Cell], origin: Origin, next: u64) -> bool
+    ensures { result ≡ list_any (is_unwritten origin next) cells.now }
+{
+    cells
+        .iter()
+        .any(|cell: &Cell| is_unwritten(cell, origin, next))
+}
 
 /// Joins a cell, if it is one of the keeper's schema.
 fn join_if<A: Cells>(cell: &Cell, keeper: &mut Keeper<A>) -> Result<(), AllocError>

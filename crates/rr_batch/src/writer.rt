@@ -6,7 +6,9 @@ ghost use Rattle.rr_batch.specs.Answers.{pending_view};
 
 use crate::fault::BatchFault;
 use crate::pending::{Pending, Waiting};
+use crate::put_off::put_off;
 use crate::refusals::RefusalCounts;
+use crate::taken::TakenOrigin;
 use rr_archive::Cells;
 use rr_connection::{Piece, Request};
 use rr_desk::Keeper;
@@ -54,7 +56,7 @@ fn more(count: u64, before: u64, after: u64) -> u64 {
 }
 
 /// The report of no lines.
-const NONE: Report = Report {
+pub(crate) const NONE: Report = Report {
     points: 0,
     samples: 0,
     refused: 0,
@@ -63,6 +65,7 @@ const NONE: Report = Report {
 impl Writer {
     ghost use Rattle.rr_batch.specs.Pieces.{GoesOnWith, KeepsOthers, OfPiece, TookPiece, stream_of};
     ghost use Rattle.rr_batch.specs.Refusals.{CountsRefused};
+    ghost use Rattle.rr_batch.specs.Taken.{put_off};
     ghost use Rattle.rr_batch.specs.Taking.{CountsPending, OfRequest, TakesRequest, rules_in};
 
     /// A writer that has taken no item. The times of lines have this precision, and may be ahead of
@@ -213,11 +216,23 @@ impl Writer {
         }
     }
 
+    /// What becomes of an item while no origin is taken: none of its lines is. A request is told so,
+    /// and to come again; a connection is closed. One that brings no line is answered as ever.
+    pub fn put_off(&self, item: &Item) -> Result<Waiting, AllocError>
+        ensures key { IfOk result (λ w. w.key ≡ item.now.key) }
+        ensures pending { IfOk result (λ w. pending_view w.pending
+            ≡ put_off self.now.precision item.now.work) }
+    {
+        put_off(self.alloc, item, self.precision)
+    }
+
     /// Takes an item: hands the lines of its body or of its piece to the keeper, where they are
-    /// pending; the answer to the item waits until they are committed. Refused as `Memory`: some
-    /// lines may then be pending, and the node can't go on.
+    /// pending; the answer to the item waits until they are committed. The keeper's origin must be
+    /// the one that is taken. Refused as `Memory`: some lines may then be pending, and the node
+    /// can't go on.
     pub fn take<A: Cells, C: Clock, T: Wait>(
         &mut self,
+        _taken: TakenOrigin,
         item: Item,
         keeper: &mut Keeper<A>,
         clock: &mut C,

@@ -2,3 +2,4 @@ pub mod NameLemmas
 pub mod StartLemmas
 pub mod ReadingLemmas
 pub mod RaisingLemmas
+pub mod NamedOriginLemmas

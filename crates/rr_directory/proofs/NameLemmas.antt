@@ -70,7 +70,7 @@ number_back k n some h fits =
     rw (not_empty, all_digits k n, value, lt-ltb n (2 ^ 64) fits) refl
 
 -- and digits are those of what they write
-digits_same : (ds : List ℕ) (i : ℕ) → i ≤ length ds → list_all is_ascii_digit ds ≡ true
+pub digits_same : (ds : List ℕ) (i : ℕ) → i ≤ length ds → list_all is_ascii_digit ds ≡ true
     → digits_of i (digits_value 10 (take i ds)) ≡ take i ds
 unfolding digits_of
 digits_same ds zero h all = refl
@@ -106,7 +106,7 @@ pub record IsNumber (ds : List ℕ) (n : ℕ) : Type 0 where
   pub value : digits_value 10 ds ≡ n
   pub fits : n < 2 ^ 64
 
-number_parts : (ds : List ℕ) (n : ℕ) → number_at ds ≡ Some n → IsNumber ds n
+pub number_parts : (ds : List ℕ) (n : ℕ) → number_at ds ≡ Some n → IsNumber ds n
 number_parts ds n h =
     by_test (not (eqb (length ds) 0)) (list_all is_ascii_digit ds) (ltb (digits_value 10 ds) (2 ^ 64)) refl refl h
   where

@@ -17,7 +17,7 @@ alone n (suc k) d lt = absurd (omega (arith, lt))
 is_there : (n : ℕ) → Contains (n ∷ []) n
 is_there n = (0, omega arith, refl)
 
-greatest_more : (offsets : List ℕ) (o p : Option ℕ) → IsGreatest offsets o
+pub greatest_more : (offsets : List ℕ) (o p : Option ℕ) → IsGreatest offsets o
     → IsGreatest (offsets ++ option_to_list p) (greater o p)
 greatest_more offsets None None h = append-nil offsets ∙ h
 greatest_more offsets (Some a) None h = subst (λ (l : List ℕ). IsGreatest l (Some a)) (sym (append-nil offsets)) h

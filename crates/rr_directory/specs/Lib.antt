@@ -10,3 +10,4 @@ pub mod Report
 pub mod Survey
 pub mod Cells
 pub mod Raising
+pub mod NamedOrigins

@@ -12,8 +12,9 @@
 //!                                        └── each: header ─> place ─> records ─> end
 //! ```
 //!
-//! Before that, [`last_origin`] goes through the journal's files among these, so that a node can
-//! choose an origin that was never used. For an operator, [`survey`] reads a file by itself, under
+//! Before that, [`last_origin`] goes through the journal's files among these, and [`origin_named`]
+//! reads the names of empty files that say which origins are taken, so that a node can choose an
+//! origin above all of them, which was never used. For an operator, [`survey`] reads a file by itself, under
 //! the schema that [`schema_in`] finds in a header; [`push_report`], [`push_verdict`] and
 //! [`push_cell`] add a line each: what a file has, whether the files join, and a cell.
 //!
@@ -29,6 +30,7 @@ mod file;
 pub mod laws;
 mod memory;
 mod name;
+mod named_origin;
 mod origins;
 mod place;
 mod raising;
@@ -43,6 +45,7 @@ pub use directory::{Directory, DirectoryFault};
 pub use fault::{FileFault, Refusal};
 pub use memory::{MemoryDirectory, MemoryFile};
 pub use name::FileName;
+pub use named_origin::{greatest_origin, origin_name, origin_named};
 pub use origins::last_origin;
 pub use raising::join_raised;
 pub use recovered::{Recovered, empty_replica, recover};

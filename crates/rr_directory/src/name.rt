@@ -29,7 +29,7 @@ pub enum FileName {
 }
 
 /// Adds the last `count` decimal digits of a number, with leading zeros.
-fn push_digits(bytes: &mut Vec<u8>, count: usize, number: u64) -> Result<(), AllocError>
+pub(crate) fn push_digits(bytes: &mut Vec<u8>, count: usize, number: u64) -> Result<(), AllocError>
     ensures { OnOk result (bytes.new.items ≡ bytes.old.items ++ digits_of count number) }
 {
     if count == 0 {
@@ -41,7 +41,7 @@ fn push_digits(bytes: &mut Vec<u8>, count: usize, number: u64) -> Result<(), All
 }
 
 /// What follows a piece, if the bytes begin with it.
-fn after<'a>(piece: &[u8], bytes: &'a [u8]) -> Option<&'a [u8]>
+pub(crate) fn after<'a>(piece: &[u8], bytes: &'a [u8]) -> Option<&'a [u8]>
     ensures { IsAfter piece.now bytes.now (option_map (λ rest. rest.now) result) }
 {
     bytes.strip_prefix(piece)

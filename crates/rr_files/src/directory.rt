@@ -210,6 +210,14 @@ impl<'a, R: Files> DataDirectory<'a, R> {
         fs::remove_file(self.rt, beside.as_str())
     }
 
+    /// Whether a file has its name.
+    pub fn has(&self, alloc: Global, name: FileName) -> bool {
+        match file_path(alloc, self.path, name) {
+            Ok(path) => fs::exists(self.rt, path.as_str()).unwrap_or(true),
+            Err(_) => true,
+        }
+    }
+
     /// Removes a file. After a crash it may be back, and is still needless.
     pub fn remove(&self, alloc: Global, name: FileName) -> io::Result<()> {
         let path = file_path(alloc, self.path, name)?;

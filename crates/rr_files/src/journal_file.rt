@@ -32,6 +32,8 @@ pub struct JournalFile<F> {
     /// How many of these are synced.
     synced: u64,
     state: State,
+    /// Whether it has no name any more.
+    is_lost: bool,
 }
 
 impl<F: Write + Seek + OpenFile> JournalFile<F> {
@@ -42,12 +44,19 @@ impl<F: Write + Seek + OpenFile> JournalFile<F> {
             len,
             synced: len,
             state: State::Whole,
+            is_lost: false,
         }
     }
 
     /// How many of its bytes are synced, including the header: no more may be given to a peer.
     pub fn synced_len(&self) -> u64 {
         self.synced
+    }
+
+    /// Notes whether it has lost its name, as when its folder is removed. Then no start finds what
+    /// it has, so appends fail.
+    pub fn set_lost(&mut self, is_lost: bool) {
+        self.is_lost = is_lost;
     }
 
     /// Writes a piece at the end.
@@ -95,7 +104,7 @@ impl<F: Write + Seek + OpenFile> Journal for JournalFile<F> {
     ghost synced = { λ j. None };
 
     fn append(&mut self, piece: &[u8]) -> Result<(), JournalFailed> {
-        if self.state != State::Whole {
+        if self.is_lost || self.state != State::Whole {
             return Err(JournalFailed);
         }
         let done = self.take(piece);

@@ -1,8 +1,8 @@
 //! The files of a node's data directory, as a running node writes them.
 //!
 //! A directory has `lock`, journal files and checkpoints, each with an offset of the journal in its
-//! name ([`rr_directory::FileName`]), and beside them, while one is written, a file of the same
-//! name ending in `.new`. A [`DirectoryLock`] keeps other processes out. A [`DataDirectory`] is
+//! name ([`rr_directory::FileName`]), an empty file for each origin that was taken, and beside them,
+//! while one is written, a file of the same name ending in `.new`. A [`DirectoryLock`] keeps other processes out. A [`DataDirectory`] is
 //! what [`rr_directory::recover`] reads, and makes and removes files; a [`JournalFile`] is what a
 //! node commits to.
 //!
@@ -10,6 +10,7 @@
 //! DataDirectory::open ── lock ──> names, open, len ──> recover
 //!        ├── open_journal, create_journal ──> JournalFile ── append, sync, cut_back
 //!        ├── create_checkpoint ── a writer ──> finish_checkpoint, or abandon_checkpoint
+//!        ├── origins, name_origin: the names of origins
 //!        └── read_at ──> bytes of a file, for a peer
 //! ```
 //!
@@ -26,6 +27,7 @@ mod fault;
 mod folder;
 mod journal_file;
 mod lock;
+mod origins;
 
 pub use directory::{DataDirectory, DirectoryLock};
 pub use fault::OpenFault;

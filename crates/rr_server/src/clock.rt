@@ -4,8 +4,8 @@ use rr_host::Clock;
 use std::time;
 use std::time::{SystemTime, UNIX_EPOCH};
 
-/// The system's clock, read once between two calls of [`Clock::renew`]. If it can't be read, or is
-/// past the year 2262, it repeats its last moment, which is 0 at first. Nothing is known of its
+/// The system's clock, read once between two calls of [`Clock::renew`]. If it can't be read, as
+/// before 1970, or is past the year 2262, it repeats its last moment. Nothing is known of its
 /// moments.
 #[derive(Drop)]
 pub struct SystemClock<S> {
@@ -18,13 +18,23 @@ pub struct SystemClock<S> {
 }
 
 impl<S: time::Clock> SystemClock<S> {
-    /// The system's clock, read through `source`; a program's handle will do.
+    /// The system's clock, read through `source`; a program's handle will do. Its moment is 0 until
+    /// it could be read.
     pub fn new(source: S) -> SystemClock<S> {
         SystemClock {
             source,
             last: 0,
             renewals: 0,
             read_at: None,
+        }
+    }
+
+    /// The same, whose moment is the least there is until it could be read: no point's own time
+    /// passes for one that has come.
+    pub fn behind(source: S) -> SystemClock<S> {
+        SystemClock {
+            last: i64::MIN,
+            ..SystemClock::new(source)
         }
     }
 }

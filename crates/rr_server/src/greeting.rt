@@ -43,14 +43,15 @@ pub(crate) fn greeting<A: Cells>(
     Ok(text)
 }
 
-/// The line of a node with a directory, starting with a replica.
+/// The line of a node with a directory, starting with a replica, whose origin is the next one that
+/// it takes.
 pub(crate) fn node_greeting<A: Cells>(
     alloc: Global,
     config: &NodeConfig,
     replica: &Replica<A>,
 ) -> Result<String, AllocError> {
     let (origin, http) = (replica.origin().get(), config.http.as_str());
-    let mut text = format!(in alloc; "rr: version {VERSION} origin {origin} http {http}")?;
+    let mut text = format!(in alloc; "rr: version {VERSION} next {origin} http {http}")?;
     if let Some(lines) = &config.lines {
         text.push_str(" lines ")?;
         text.push_str(lines.as_str())?;

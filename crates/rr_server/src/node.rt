@@ -1,7 +1,7 @@
 //! A node with one directory and one reactor: what `rr node` runs.
 //!
 //! ```text
-//! configuration ─> directory, locked ─> recovered ─> new origin, recorded ─> listeners ─> threads:
+//! configuration ─> directory, locked ─> addresses, tried ─> recovered ─> listeners ─> threads:
 //!
 //! Reactor ── writes ───> Keeping: a batch, committed and then answered ── a place ──> Checkpoints
 //!    ^  └─── fetches ──> Handlers, on several threads   ^                  of the journal
@@ -11,6 +11,9 @@
 //! A peer's thread keeps asking it for what its journal has gained, and hands the cells to the
 //! keeper, which joins them with a batch and then records how far the journal was read. Handlers
 //! give peers the bytes of this node's own journal.
+//!
+//! The origin of a start is taken when the first lines come: it is named in the directory and
+//! recorded in the journal before any of them is taken.
 //!
 //! The decisions are made below: `rr_batch` decides what a batch comes to, `rr_web` how requests
 //! are answered, `rr_directory` and `rr_recovery` what the files make, `rr_checkpoint` when and how

@@ -46,9 +46,14 @@ counter name amount = family_of Counter name (single amount)
 abbrev pub optional : List ℕ → Option Amount → Numbers
 optional name amount = family_of Gauge name (samples_of amount)
 
-abbrev pub info_samples : List ℕ → ℕ → List SampleView
+-- the label of an origin, once it is taken
+abbrev pub origin_labels : Option ℕ → List (List ℕ × List ℕ)
+origin_labels None = []
+origin_labels (Some origin) = (codes "origin", decimal origin) ∷ []
+
+abbrev pub info_samples : List ℕ → Option ℕ → List SampleView
 info_samples version origin =
-    record { labels = (codes "version", version) ∷ (codes "origin", decimal origin) ∷ []; amount = Whole 1 } ∷ []
+    record { labels = (codes "version", version) ∷ origin_labels origin; amount = Whole 1 } ∷ []
 
 abbrev pub archive_sample : ArchiveRows → SampleView
 archive_sample archive = labelled (codes "resolution") (decimal archive.seconds) archive.rows

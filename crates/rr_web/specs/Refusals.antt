@@ -30,6 +30,9 @@ refusal_of other = error_reply status.OnlyPost (codes "it is written by POST")
 abbrev pub coding_refusal : ReplyView
 coding_refusal = error_reply status.UnknownCoding (codes "a body with a content-encoding is not read")
 
+abbrev pub put_off_write : ReplyView
+put_off_write = error_reply status.Busy (codes "the origin can't be recorded: nothing is taken")
+
 abbrev pub precision_refusal : Precision → ReplyView
 precision_refusal precision =
     error_reply status.BadRequest (codes "the precision of this node is " ++ precision_name precision)

@@ -55,7 +55,7 @@ pub use node_metrics::{
 pub use parts::{Given, JournalPlace, PartQuery, part_query, part_response};
 pub use peer_metrics::PeerNumbers;
 pub use read::read_reply;
-pub use refusals::refused_write;
+pub use refusals::{put_off_write, refused_write};
 pub use reply::Reply;
 pub use response::response_of;
 pub use target::target_parts;

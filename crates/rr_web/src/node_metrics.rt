@@ -51,8 +51,8 @@ pub struct AnswerCounts {
 pub struct NodeMetrics {
     /// The version of the program.
     pub version: &'static str,
-    /// The origin of the node's samples.
-    pub origin: u64,
+    /// The origin of the node's samples, once it is taken.
+    pub origin: Option<u64>,
     /// The rows of each archive.
     pub archives: Vec<ArchiveRows>,
     /// The series that are held.

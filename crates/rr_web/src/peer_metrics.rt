@@ -20,6 +20,8 @@ pub struct PeerNumbers {
     pub lag_bytes: u64,
     /// The milliseconds since all of it was read.
     pub lag: u64,
+    /// 1 if the peer has samples of this node's own origin that this node never wrote, else 0.
+    pub own_origin: u64,
 }
 
 /// One of the numbers of a peer.
@@ -31,6 +33,8 @@ pub(crate) enum PeerNumber {
     LagBytes,
     /// The time since all was read.
     Lag,
+    /// Whether it has samples of this node's own origin.
+    OwnOrigin,
 }
 
 /// The amount of one of a peer's numbers.
@@ -41,6 +45,7 @@ fn amount_of(number: PeerNumber, peer: &PeerNumbers) -> Amount
         PeerNumber::Up => Amount::Whole(peer.up),
         PeerNumber::LagBytes => Amount::Whole(peer.lag_bytes),
         PeerNumber::Lag => Amount::Thousandths(peer.lag),
+        PeerNumber::OwnOrigin => Amount::Whole(peer.own_origin),
     }
 }
 
@@ -104,5 +109,14 @@ pub(crate) fn push_peers(
         b"rr_peer_lag_seconds",
         help,
         lag,
+    )?;
+    let own = peer_samples(alloc, PeerNumber::OwnOrigin, peers)?;
+    let help = b"Whether a peer has samples of this node's origin that this node never wrote.";
+    push(
+        families,
+        FamilyKind::Gauge,
+        b"rr_peer_own_origin",
+        help,
+        own,
     )
 }

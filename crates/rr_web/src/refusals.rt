@@ -5,7 +5,7 @@ ghost use Rattle.rr_connection.specs.Requests.{request_view};
 ghost use Rattle.rr_line.specs.Precision.{precision_name};
 ghost use Rattle.rr_web.specs.Query.{parameter_of};
 ghost use Rattle.rr_web.specs.Refusals.{coding_refusal, error_reply, refusal_of, refused_lines, refused_write};
-ghost use Rattle.rr_web.specs.Refusals.{is_other, precision_refusal};
+ghost use Rattle.rr_web.specs.Refusals.{is_other, precision_refusal, put_off_write};
 ghost use Rattle.rr_web.specs.Reply.{reply_view};
 ghost use Rattle.std.specs.Prelude.{codes};
 
@@ -103,4 +103,12 @@ pub fn refused_write(
         Ask::Write => refused_lines(alloc, request.is_encoded, query, precision),
         ask => Ok(Some(refusal_of(alloc, ask)?)),
     }
+}
+
+/// The reply to a write while no origin can be taken: no line is, and the write may be sent again.
+pub fn put_off_write(alloc: Global) -> Result<Reply, AllocError>
+    ensures { IfOk result (λ reply. reply_view reply ≡ put_off_write) }
+{
+    let why = b"the origin can't be recorded: nothing is taken";
+    error_reply(alloc, Status::Busy, why)
 }

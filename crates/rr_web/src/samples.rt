@@ -1,9 +1,9 @@
 //! The samples of the numbers of a node.
 
-ghost use Rattle.std.specs.Prelude.{◌≡◌, IfOk, codes, decimal, map, option_map};
-ghost use Rattle.rr_web.specs.Family.{sample_view};
+ghost use Rattle.std.specs.Prelude.{◌≡◌, ◌++◌, IfOk, OnOk, codes, decimal, map, option_map};
+ghost use Rattle.rr_web.specs.Family.{label_view, sample_view};
 ghost use Rattle.rr_web.specs.NodeMetrics.{answer_samples, archive_sample, archive_samples, info_samples, labelled};
-ghost use Rattle.rr_web.specs.NodeMetrics.{refused_sample, refused_samples, samples_of, single};
+ghost use Rattle.rr_web.specs.NodeMetrics.{origin_labels, refused_sample, refused_samples, samples_of, single};
 
 use crate::family::{Amount, Label, Sample};
 use crate::node_metrics::{AnswerCounts, ArchiveRows, RefusedLines};
@@ -145,11 +145,29 @@ pub(crate) fn samples_of(alloc: Global, amount: Option<Amount>) -> Result<Vec<Sa
     }
 }
 
+/// Adds the label of the origin under which a node writes, once it is taken.
+fn push_origin(
+    alloc: Global,
+    labels: &mut Vec<Label>,
+    origin: Option<u64>,
+) -> Result<(), AllocError>
+    ensures { OnOk result (map label_view labels.new.items
+        ≡ map label_view labels.old.items ++ origin_labels origin) }
+{
+    if let Some(origin) = origin {
+        labels.push(Label {
+            name: b"origin",
+            value: decimal(alloc, origin)?,
+        })?;
+    }
+    Ok(())
+}
+
 /// The sample that says what the program is, and under which origin it writes.
 pub(crate) fn info_samples(
     alloc: Global,
     version: &str,
-    origin: u64,
+    origin: Option<u64>,
 ) -> Result<Vec<Sample>, AllocError>
     ensures { IfOk result (λ samples. map sample_view samples.items
         ≡ info_samples version.now origin) }
@@ -159,10 +177,7 @@ pub(crate) fn info_samples(
         name: b"version",
         value: Vec::from_slice(alloc, version.as_bytes())?,
     })?;
-    labels.push(Label {
-        name: b"origin",
-        value: decimal(alloc, origin)?,
-    })?;
+    push_origin(alloc, &mut labels, origin)?;
     let mut samples = Vec::new(alloc);
     samples.push(Sample {
         labels,

@@ -1,14 +1,16 @@
 //! What peers bring, as the keeper takes it.
 
 use crate::node::keeping::is_written;
-use crate::node::link::PeerLink;
+use crate::node::link::{PeerLink, Standing};
 use crate::node::mailbox::{Delivery, Mailbox};
-use rr_batch::{BatchFault, commit_cursor, join_cells};
+use crate::signals::Flag;
+use rr_batch::{BatchFault, are_unwritten, commit_cursor, join_cells};
 use rr_desk::Keeper;
 use rr_files::JournalFile;
 use rr_journal::Cursor;
 use rr_packed::PackedArchive;
 use rr_recovery::put_cursor;
+use rr_schema::Origin;
 use rr_web::PeerNumbers;
 use std::alloc::{AllocError, Global};
 use std::fs::OpenFile;
@@ -26,8 +28,6 @@ struct Arrival {
     delivery: Option<Delivery>,
     /// How many of its cells are joined.
     joined: usize,
-    /// Whether the operator was told that the peer has cells of the node's own origin.
-    is_own_told: bool,
 }
 
 /// What peers brought, and how far their journals are read.
@@ -40,14 +40,34 @@ pub(crate) struct Arrivals {
 }
 
 impl Arrival {
-    /// Takes the waiting delivery, if the one taken before is done with.
-    fn take<R: Wait>(&mut self, rt: &R) {
+    /// Takes the waiting delivery, if the one taken before is done with, and returns whether it has
+    /// cells of this origin, the node's own, that the node never wrote: then it is let go of, and
+    /// the peer isn't followed any more.
+    fn take<R: Eprint + Wait>(&mut self, rt: &R, origin: Origin, next: u64) -> bool {
         if self.delivery.is_some() {
-            return;
+            return false;
         }
         let mailbox: &Mailbox = &self.link.mailbox;
-        self.delivery = mailbox.take(rt);
+        let Some(delivery) = mailbox.take(rt) else {
+            return false;
+        };
+        if are_unwritten(&delivery.cells, origin, next) {
+            self.refuse(rt);
+            return true;
+        }
+        self.delivery = Some(delivery);
         self.joined = 0;
+        false
+    }
+
+    /// Follows the peer no more, since it has cells of the node's own origin.
+    fn refuse<R: Eprint + Wait>(&mut self, rt: &R) {
+        let standing: &Standing = &self.link.standing;
+        standing.has_own();
+        let number = self.link.number;
+        // If this can't be printed, the peer isn't followed all the same.
+        let _printed = eprintln!(rt; "peer {number}: own origin");
+        self.finish(rt);
     }
 
     /// How many cells are left to join.
@@ -59,31 +79,19 @@ impl Arrival {
     }
 
     /// Joins the next cells, at most this many.
-    fn join<R: Eprint>(
-        &mut self,
-        rt: &R,
-        keeper: &mut Keeper<PackedArchive>,
-        most: usize,
-    ) -> Result<(), AllocError> {
+    fn join(&mut self, keeper: &mut Keeper<PackedArchive>, most: usize) -> Result<(), AllocError> {
         let Some(delivery) = &self.delivery else {
             return Ok(());
         };
-        let next = keeper.next_number();
         let len = delivery.cells.len();
         let begin = self.joined.min(len);
         let end = begin.saturating_add(most).min(len);
         join_cells(&delivery.cells[begin..end], keeper)?;
         self.joined = end;
-        if next < keeper.next_number() && !self.is_own_told {
-            self.is_own_told = true;
-            let number = self.link.number;
-            // If this can't be printed, the node goes on all the same.
-            let _printed = eprintln!(rt; "peer {number}: own origin");
-        }
         Ok(())
     }
 
-    /// Lets go of a delivery that is joined and recorded.
+    /// Lets go of a delivery that is done with.
     fn finish<R: Wait>(&mut self, rt: &R) {
         self.delivery = None;
         let mailbox: &Mailbox = &self.link.mailbox;
@@ -117,7 +125,6 @@ impl Arrivals {
                 link,
                 delivery: None,
                 joined: 0,
-                is_own_told: false,
             })?;
         }
         Ok(Arrivals {
@@ -138,18 +145,23 @@ impl Arrivals {
     }
 
     /// Joins the next cells that peers brought, at most an equal share from each, and returns
-    /// whether there is anything to commit.
+    /// whether there is anything to commit. Raises `is_own_elsewhere` if a peer has cells of this
+    /// origin, the node's own, that the node never wrote.
     pub(crate) fn join<R: Eprint + Wait>(
         &mut self,
         rt: &R,
         keeper: &mut Keeper<PackedArchive>,
+        origin: Origin,
+        is_own_elsewhere: &Flag,
     ) -> Result<bool, AllocError> {
         let most = CELLS / self.arrivals.len().max(1);
         let mut has_more = false;
         for arrival in &mut self.arrivals {
-            arrival.take(rt);
+            if arrival.take(rt, origin, keeper.next_number()) {
+                is_own_elsewhere.raise();
+            }
             has_more |= arrival.left() > 0;
-            arrival.join(rt, keeper, most)?;
+            arrival.join(keeper, most)?;
         }
         Ok(has_more)
     }

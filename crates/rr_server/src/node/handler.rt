@@ -17,7 +17,14 @@ use std::time::Duration;
 use std::{io, time};
 
 /// Why a node can acknowledge nothing.
-const FAILURE: &[u8] = b"the journal can't be written";
+const UNWRITTEN: &[u8] = b"the journal can't be written";
+
+/// Why a node takes no line.
+const WITHOUT_ORIGIN: &[u8] = b"the origin can't be recorded";
+
+/// Why a node's samples are in danger.
+const OWN_ELSEWHERE: &[u8] =
+    b"another node writes under this one's origin: give this node a new range of origins";
 
 /// Answers read requests, on a thread of its own.
 #[derive(Drop)]
@@ -33,7 +40,11 @@ impl Handler {
     /// Why the node can acknowledge nothing now, if that is so.
     fn failure(&self) -> Option<&'static [u8]> {
         if self.shared.is_failing.is_raised() {
-            Some(FAILURE)
+            Some(UNWRITTEN)
+        } else if self.shared.is_without_origin.is_raised() {
+            Some(WITHOUT_ORIGIN)
+        } else if self.shared.is_own_elsewhere.is_raised() {
+            Some(OWN_ELSEWHERE)
         } else {
             None
         }

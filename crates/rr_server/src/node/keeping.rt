@@ -4,12 +4,17 @@ use crate::files::tell;
 use crate::node::arrivals::Arrivals;
 use crate::node::logbook::Logbook;
 use crate::node::numbers::Numbers;
+use crate::node::origins::{DirectoryNames, OwnOrigins};
 use crate::node::shared::{Answered, Desired, Shared};
 use crate::server::OUT_OF_MEMORY;
-use rr_batch::{Answers, BatchFault, Waiting, Writer, commit_batch, commit_origin};
+use rr_batch::{
+    Answers, BatchFault, TakenOrigin, Waiting, Writer, brings_lines, commit_batch, commit_origin,
+    take_origin,
+};
 use rr_command_line::PRODUCT;
 use rr_commit::ChangesFault;
 use rr_desk::Keeper;
+use rr_directory::FileName;
 use rr_files::DataDirectory;
 use rr_host::Clock;
 use rr_packed::PackedArchive;
@@ -32,6 +37,9 @@ pub(crate) struct Keeping<F> {
     pub(crate) alloc: Global,
     pub(crate) writer: Writer,
     pub(crate) logbook: Logbook<F>,
+    pub(crate) origins: OwnOrigins,
+    /// A descriptor that is let go of when the origin is named, which needs one.
+    pub(crate) spare: Option<F>,
     pub(crate) numbers: Numbers,
     pub(crate) shared: Shared,
     pub(crate) arrivals: Arrivals,
@@ -74,10 +82,11 @@ fn gather<R: Wait + time::Clock>(
     Ok(items)
 }
 
-/// Takes the lines of items.
+/// Takes the lines of items, if the origin is taken.
 fn take_all<C: Clock, R: Wait>(
     rt: &R,
     alloc: Global,
+    taken: Option<TakenOrigin>,
     writer: &mut Writer,
     items: Vec<Item>,
     keeper: &mut Keeper<PackedArchive>,
@@ -85,9 +94,18 @@ fn take_all<C: Clock, R: Wait>(
 ) -> Result<Vec<Waiting>, BatchFault> {
     let mut batch = Vec::with_capacity(alloc, items.len())?;
     for item in items {
-        batch.push(writer.take(item, keeper, clock, rt)?)?;
+        let waiting = match taken {
+            Some(taken) => writer.take(taken, item, keeper, clock, rt)?,
+            None => writer.put_off(&item)?,
+        };
+        batch.push(waiting)?;
     }
     Ok(batch)
+}
+
+/// Whether an item may bring a sample.
+fn bring_lines(items: &[Item]) -> bool {
+    items.iter().any(|item: &Item| brings_lines(&item.work))
 }
 
 /// Counts answers, and hands them on.
@@ -152,15 +170,55 @@ impl<F: Write + Seek + OpenFile + Drop> Keeping<F> {
         }
     }
 
-    /// Records this start's origin and how far peers' journals are read, and returns whether that
-    /// is saved. The files with the first of these records go with the checkpoint that makes them
-    /// needless, so the next file has them too.
-    fn record_again(&mut self) -> Result<bool, BatchFault> {
-        let origin = self.numbers.origin();
+    /// Takes the origin of this start, if it isn't taken and is needed: by these items, or by some
+    /// that were put off.
+    fn take_origin<R: Files<File = F> + Eprint>(
+        &mut self,
+        rt: &R,
+        path: &str,
+        items: &[Item],
+    ) -> Result<(), BatchFault> {
+        let was_put_off = self.shared.is_without_origin.is_raised();
+        if self.origins.taken.is_some() || !(was_put_off || bring_lines(items)) {
+            return Ok(());
+        }
+        let (alloc, next) = (self.alloc, self.origins.next);
+        self.spare = None;
+        let mut names = DirectoryNames { rt, alloc, path };
         let logbook = &mut self.logbook;
         let (journal, cursor) = (&mut logbook.journal, &mut logbook.cursor);
-        let is_recorded = is_written(commit_origin(self.alloc, origin, journal, cursor))?
-            && self.arrivals.record(journal, cursor)?;
+        match take_origin(alloc, next, &mut names, journal, cursor) {
+            Ok(taken) => {
+                self.origins.taken = Some(taken);
+                self.numbers.has_origin(next);
+                if was_put_off {
+                    self.shared.is_without_origin.take();
+                    tell(rt, path, "the origin is recorded: lines are taken again");
+                }
+            }
+            Err(fault) => {
+                is_written(Err(fault))?;
+                if !was_put_off {
+                    self.shared.is_without_origin.raise();
+                    let text = "the origin can't be recorded: no line is taken until it can";
+                    tell(rt, path, text);
+                }
+            }
+        }
+        Ok(())
+    }
+
+    /// Records the greatest origin that is taken and how far peers' journals are read, and returns
+    /// whether that is saved. The files with the first of these records go with the checkpoint that
+    /// makes them needless, so the next file has them too.
+    fn record_again(&mut self) -> Result<bool, BatchFault> {
+        let logbook = &mut self.logbook;
+        let (journal, cursor) = (&mut logbook.journal, &mut logbook.cursor);
+        let is_kept = match self.origins.greatest() {
+            Some(origin) => is_written(commit_origin(self.alloc, origin, journal, cursor))?,
+            None => true,
+        };
+        let is_recorded = is_kept && self.arrivals.record(journal, cursor)?;
         self.shared.is_synced_to(logbook.cursor.offset);
         Ok(is_recorded)
     }
@@ -183,6 +241,7 @@ impl<F: Write + Seek + OpenFile + Drop> Keeping<F> {
         match directory.create_journal(self.alloc, &begins, keeper.schema()) {
             Ok(journal) => {
                 self.logbook.journal = journal;
+                self.logbook.name = FileName::Journal(begins.offset);
                 if self.record_again()? {
                     self.logbook.is_asked = true;
                     let checkpoints: &Desired = &self.shared.checkpoints;
@@ -203,7 +262,10 @@ impl<F: Write + Seek + OpenFile + Drop> Keeping<F> {
         clock: &mut C,
         items: Vec<Item>,
     ) -> Result<(), BatchFault> {
-        let batch = take_all(rt, self.alloc, &mut self.writer, items, keeper, clock)?;
+        self.logbook.see(rt, self.alloc, path);
+        self.take_origin(rt, path, &items)?;
+        let (alloc, taken) = (self.alloc, self.origins.taken);
+        let batch = take_all(rt, alloc, taken, &mut self.writer, items, keeper, clock)?;
         let Answers { answers, is_saved } = self.commit(rt, keeper, batch)?;
         self.is_saved = is_saved;
         self.shared.is_synced_to(self.logbook.cursor.offset);
@@ -251,8 +313,11 @@ impl<F: Write + Seek + OpenFile + Drop> Keeping<F> {
             Duration::from_secs(1)
         };
         let items = gather(rt, self.alloc, &self.shared.queues, timeout)?;
-        let has_more = self.arrivals.join(rt, keeper)?;
-        if has_more || !items.is_empty() || !self.is_saved {
+        let is_own_elsewhere = &self.shared.is_own_elsewhere;
+        let origin = self.origins.next;
+        let has_more = self.arrivals.join(rt, keeper, origin, is_own_elsewhere)?;
+        let is_behind = !self.is_saved || self.shared.is_without_origin.is_raised();
+        if has_more || !items.is_empty() || is_behind {
             self.take(rt, path, keeper, clock, items)?;
         }
         self.settle(rt)?;

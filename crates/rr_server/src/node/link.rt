@@ -12,6 +12,8 @@ use std::time::{Clock, Duration, Instant};
 pub(crate) struct Standing {
     /// Whether its last answer was taken.
     is_up: AtomicBool,
+    /// Whether it has samples of this node's own origin, and so isn't followed any more.
+    is_own: AtomicBool,
     /// How many bytes of its journal aren't read yet.
     lag: AtomicU64,
     /// When all of it was last read, or this node began.
@@ -23,6 +25,7 @@ impl Standing {
     fn new(clock: &impl Clock) -> Standing {
         Standing {
             is_up: AtomicBool::new(false),
+            is_own: AtomicBool::new(false),
             lag: AtomicU64::new(0),
             read: Mutex::new(Instant::now(clock).ok()),
         }
@@ -31,6 +34,17 @@ impl Standing {
     /// Notes that the peer can't be followed.
     pub(crate) fn is_down(&self) {
         self.is_up.store(false, Ordering::SeqCst);
+    }
+
+    /// Notes that the peer has samples of this node's own origin.
+    pub(crate) fn has_own(&self) {
+        self.is_down();
+        self.is_own.store(true, Ordering::SeqCst);
+    }
+
+    /// Whether the peer has samples of this node's own origin.
+    pub(crate) fn is_own(&self) -> bool {
+        self.is_own.load(Ordering::SeqCst)
     }
 
     /// Notes that an answer was taken, and how many bytes aren't read yet, if that is known.
@@ -109,6 +123,7 @@ impl PeerLink {
             up: u64::from(standing.is_up.load(Ordering::SeqCst)),
             lag_bytes: standing.lag.load(Ordering::SeqCst),
             lag: standing.age(rt),
+            own_origin: u64::from(standing.is_own()),
         })
     }
 }

@@ -23,7 +23,8 @@ const CELLS_SHARE: u32 = 1_000;
 /// What a keeper remembers for the numbers of its node.
 #[derive(Drop)]
 pub(crate) struct Numbers {
-    origin: Origin,
+    /// The origin of the node's samples, once it is taken.
+    origin: Option<Origin>,
     failed_appends: u64,
     cells: usize,
     /// When cells were last counted, where the journal ended then, and how long until they are
@@ -50,10 +51,10 @@ fn age(clock: &impl Clock, since: &Instant) -> u64 {
 }
 
 impl Numbers {
-    /// The numbers of a node that has just begun under an origin.
-    pub(crate) fn new(origin: Origin) -> Numbers {
+    /// The numbers of a node that has just begun.
+    pub(crate) fn new() -> Numbers {
         Numbers {
-            origin,
+            origin: None,
             failed_appends: 0,
             cells: 0,
             counted: None,
@@ -64,9 +65,9 @@ impl Numbers {
         }
     }
 
-    /// The origin of the node's samples.
-    pub(crate) fn origin(&self) -> Origin {
-        self.origin
+    /// Notes that the origin of the node's samples is taken.
+    pub(crate) fn has_origin(&mut self, origin: Origin) {
+        self.origin = Some(origin);
     }
 
     /// Counts an append that failed.
@@ -131,7 +132,10 @@ impl Numbers {
         let tally: Report = writer.tally();
         Ok(NodeMetrics {
             version: VERSION,
-            origin: u64::from(self.origin.get()),
+            origin: match self.origin {
+                Some(origin) => Some(u64::from(origin.get())),
+                None => None,
+            },
             archives: archive_rows(alloc, keeper.schema())?,
             series: shared.series.load(Ordering::SeqCst),
             cells: self.cells as u64,

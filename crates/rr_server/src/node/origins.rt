@@ -1,12 +1,14 @@
-//! The origin of a start.
+//! The origins of a node.
 
 use crate::files::tell;
-use crate::node::endings::refusal_ending;
+use crate::node::endings::{failed, refusal_ending};
+use rr_batch::{NotNamed, OriginNames, TakenOrigin};
 use rr_config::NodeConfig;
-use rr_directory::{FileName, Refusal, Start, last_origin, schema_in};
+use rr_directory::{FileName, Refusal, Start, greatest_origin, last_origin, schema_in};
 use rr_files::DataDirectory;
 use rr_process::Ending;
 use rr_schema::{Origin, Schema};
+use std::alloc::Global;
 use std::rt::Files;
 
 /// The origin that a journal file recorded last, whatever its schema.
@@ -61,25 +63,86 @@ fn last_recorded<R: AllocGlobal + Files>(
     }
 }
 
-/// The origin of this start: the next in the range that no start of this directory had. The files
-/// that are read are of this schema.
-pub(crate) fn next_origin<R: AllocGlobal + Files + Eprint>(
+/// The origins that starts of a directory have taken, and the one that this start takes once a
+/// sample is to be put.
+#[derive(Clone, Copy)]
+pub(crate) struct OwnOrigins {
+    /// The greatest that an earlier start has taken.
+    pub(crate) last: Option<Origin>,
+    /// The one of this start.
+    pub(crate) next: Origin,
+    /// The same, once it is taken.
+    pub(crate) taken: Option<TakenOrigin>,
+}
+
+impl OwnOrigins {
+    /// The greatest that is taken.
+    pub(crate) fn greatest(&self) -> Option<Origin> {
+        match self.taken {
+            Some(taken) => Some(taken.get()),
+            None => self.last,
+        }
+    }
+}
+
+/// Where a node names its origins: its directory.
+#[derive(Drop)]
+pub(crate) struct DirectoryNames<'a, R> {
+    pub(crate) rt: &'a R,
+    pub(crate) alloc: Global,
+    pub(crate) path: &'a str,
+}
+
+impl<R: Files> OriginNames for DirectoryNames<'_, R> {
+    ghost use Rattle.std.specs.Prelude.{None};
+
+    ghost named = { λ _. None };
+
+    fn name_origin(&mut self, origin: Origin) -> Result<(), NotNamed> {
+        match DataDirectory::at(self.rt, self.path).name_origin(self.alloc, origin) {
+            Ok(()) => Ok(()),
+            Err(_) => Err(NotNamed),
+        }
+    }
+}
+
+/// The greatest origin that the names and the files of a directory have.
+fn last_taken<R: AllocGlobal + Files + Eprint>(
     rt: &R,
-    path: &str,
+    directory: &DataDirectory<'_, R>,
+    files: &Start,
+    schema: &Schema,
+) -> Result<Option<Origin>, Ending> {
+    let path = directory.path();
+    let named = match directory.origins(rt.alloc()) {
+        Ok(named) => named,
+        Err(error) => return Err(failed(rt, path, &error)),
+    };
+    match last_recorded(rt, directory, files, schema) {
+        Ok(recorded) => Ok(greatest_origin(&named, recorded)),
+        Err(refusal) => Err(refusal_ending(rt, path, &refusal)),
+    }
+}
+
+/// The origins of a directory, whose next one is the least in the range above all that are taken.
+/// The files that are read are of this schema.
+pub(crate) fn own_origins<R: AllocGlobal + Files + Eprint>(
+    rt: &R,
     directory: &DataDirectory<'_, R>,
     files: &Start,
     schema: &Schema,
     config: &NodeConfig,
-) -> Result<Origin, Ending> {
-    let last = match last_recorded(rt, directory, files, schema) {
-        Ok(last) => last,
-        Err(refusal) => return Err(refusal_ending(rt, path, &refusal)),
-    };
+) -> Result<OwnOrigins, Ending> {
+    let last = last_taken(rt, directory, files, schema)?;
     match config.origins.next_after(last) {
-        Some(origin) => Ok(origin),
+        Some(next) => Ok(OwnOrigins {
+            last,
+            next,
+            taken: None,
+        }),
         None => {
             let text = "the range of origins is spent: give the node a new one";
-            tell(rt, path, text);
+            tell(rt, directory.path(), text);
             Err(Ending::ConfigRefused("OriginsSpent"))
         }
     }

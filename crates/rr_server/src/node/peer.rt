@@ -80,6 +80,12 @@ impl Peer {
         queues.is_halted()
     }
 
+    /// Whether the peer isn't to be followed any more.
+    fn is_given_up(&self) -> bool {
+        let standing: &Standing = &self.link.standing;
+        self.is_halted() || standing.is_own()
+    }
+
     /// A connection to the peer, over which it is to be greeted.
     fn connect<R: PeerCalling>(&mut self, rt: &R) -> Result<PeerConnection<Half, Half>, PeerFault> {
         let limit = Duration::from_secs(TIMEOUT);
@@ -134,7 +140,7 @@ impl Peer {
         self.asked = self.following.reached();
         let mut connection = self.connect(rt)?;
         for _ in 0..u64::MAX {
-            if self.is_halted() {
+            if self.is_given_up() {
                 break;
             }
             self.asked = self.following.reached();
@@ -171,13 +177,15 @@ impl Peer {
         }
     }
 
-    /// Follows the peer until the node ends.
+    /// Follows the peer until the node ends, as long as it doesn't write under this node's origin.
     pub(crate) fn serve<R: PeerCalling + Eprint + Wait + Clock>(&mut self, rt: &R) {
         for _ in 0..u64::MAX {
             if self.is_halted() {
                 return;
             }
-            if let Err(fault) = self.follow(rt) {
+            if self.is_given_up() {
+                self.rest(rt);
+            } else if let Err(fault) = self.follow(rt) {
                 self.note(rt, fault);
             }
         }

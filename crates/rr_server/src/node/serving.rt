@@ -11,7 +11,7 @@ use crate::node::listening::listen;
 use crate::node::numbers::Numbers;
 use crate::node::runtime::ThreadRuntime;
 use crate::node::shared::Shared;
-use crate::node::start::{Beginning, Started, start};
+use crate::node::start::{Beginning, Started, open_directory, start};
 use crate::node::threads::{Served, links_of};
 use crate::node::worker::Workers;
 use crate::server::OUT_OF_MEMORY;
@@ -79,7 +79,8 @@ fn serve_keeper<R: AllocGlobal + Files + ThreadRuntime>(
     };
     let Beginning {
         logbook,
-        origin,
+        origins,
+        spare,
         cursors,
     } = beginning;
     let shared = Shared::new(alloc, queues, logbook.cursor.offset)?;
@@ -99,12 +100,14 @@ fn serve_keeper<R: AllocGlobal + Files + ThreadRuntime>(
         alloc,
         writer: Writer::new(alloc, config.precision, config.lead),
         logbook,
-        numbers: Numbers::new(origin),
+        origins,
+        spare,
+        numbers: Numbers::new(),
         shared: shared.share()?,
         arrivals: Arrivals::new(alloc, links, cursors)?,
         is_saved: true,
     };
-    let clock = &mut SystemClock::new(rt);
+    let clock = &mut SystemClock::behind(rt);
     let (keeping, workers) = (&mut keeping, &mut workers);
     Ok(serve_all(rt, path, keeper, clock, keeping, workers, &shared))
 }
@@ -117,11 +120,7 @@ fn serve_started<R: AllocGlobal + Files + ThreadRuntime>(
     started: Started<R::File>,
     reactor: Reactor,
 ) -> Result<Ending, AllocError> {
-    let Started {
-        lock,
-        replica,
-        beginning,
-    } = started;
+    let Started { replica, beginning } = started;
     let readers = (config.readers as usize).saturating_add(1);
     let Ok((mut keeper, readers)) = open(rt.alloc(), rt, replica, readers) else {
         return Err(AllocError);
@@ -129,13 +128,12 @@ fn serve_started<R: AllocGlobal + Files + ThreadRuntime>(
     let desk = &mut keeper;
     let ending = serve_keeper(rt, config, path, beginning, reactor, desk, readers);
     keeper.close(rt);
-    drop(lock);
     ending
 }
 
-/// Serves as a node from a directory, which begins with a snapshot if one is named. Configuration,
-/// directory, recovery, the origin's record and listeners come in this order; the first fault ends
-/// it.
+/// Serves as a node from a directory, which begins with a snapshot if one is named. The
+/// configuration, the directory's lock, the addresses, which are tried, recovery, and the listeners
+/// come in this order; the first fault ends it.
 pub(crate) fn serve_node_of<R>(
     rt: &R,
     config: &str,
@@ -147,10 +145,16 @@ where
     R::File: TryLock,
 {
     let config = read_node_config(rt, config)?;
-    let started = start(rt, &config, path, load)?;
+    let (directory, lock) = open_directory(rt, path)?;
+    // They are let go of while the directory is read: a request that waited meanwhile could be given
+    // up, sent again, and then taken twice.
+    drop(listen(rt, &config)?);
+    let started = start(rt, &config, &directory, load)?;
     let reactor = listen(rt, &config)?;
     greet(rt, &config, &started.replica);
-    match serve_started(rt, &config, path, started, reactor) {
+    let ending = serve_started(rt, &config, path, started, reactor);
+    drop(lock);
+    match ending {
         Ok(ending) => Ok(ending),
         Err(_) => Err(OUT_OF_MEMORY),
     }

@@ -112,6 +112,10 @@ pub(crate) struct Shared {
     pub(crate) metrics: SharedText,
     /// Whether nothing can be acknowledged now.
     pub(crate) is_failing: Flag,
+    /// Whether a peer has samples of this node's own origin.
+    pub(crate) is_own_elsewhere: Flag,
+    /// Whether no line can be taken now, since the origin can't.
+    pub(crate) is_without_origin: Flag,
     pub(crate) answered: Arc<Answered>,
     pub(crate) checkpoints: Arc<Desired>,
     /// How many series there were at the last count.
@@ -140,6 +144,8 @@ impl Shared {
             queues,
             metrics: SharedText::new(alloc)?,
             is_failing: Flag::new(alloc)?,
+            is_own_elsewhere: Flag::new(alloc)?,
+            is_without_origin: Flag::new(alloc)?,
             answered: Arc::new(alloc, answered)?,
             checkpoints: Arc::new(alloc, Desired::new())?,
             series: Arc::new(alloc, AtomicU64::new(0))?,
@@ -168,6 +174,8 @@ impl Shared {
             queues: Arc::try_clone(&self.queues)?,
             metrics: self.metrics.share()?,
             is_failing: self.is_failing.share()?,
+            is_own_elsewhere: self.is_own_elsewhere.share()?,
+            is_without_origin: self.is_without_origin.share()?,
             answered: Arc::try_clone(&self.answered)?,
             checkpoints: Arc::try_clone(&self.checkpoints)?,
             series: Arc::try_clone(&self.series)?,

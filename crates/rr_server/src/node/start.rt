@@ -4,10 +4,11 @@ use crate::files::{load_replica, tell};
 use crate::node::endings::{directory_ending, failed, refusal_ending};
 use crate::node::loading::commit_replica;
 use crate::node::logbook::Logbook;
-use crate::node::origins::next_origin;
+use crate::node::origins::{OwnOrigins, own_origins};
 use crate::node::upgrade::{older_schema, upgraded};
 use crate::server::OUT_OF_MEMORY;
 use rr_batch::commit_origin;
+use rr_commit::ChangesFault;
 use rr_config::NodeConfig;
 use rr_directory::{Directory, FileName, Recovered, Start, empty_replica, recover, start_of};
 use rr_files::{DataDirectory, DirectoryLock, JournalFile, OpenFault, TryLock};
@@ -17,7 +18,9 @@ use rr_process::{Ending, ToolFault};
 use rr_replica::Replica;
 use rr_schema::{Origin, Schema};
 use std::alloc::Global;
+use std::fs::OpenFile;
 use std::io;
+use std::io::{Seek, Write};
 use std::random::RandomSource;
 use std::rt::Files;
 use std::sync::Wait;
@@ -25,8 +28,6 @@ use std::sync::Wait;
 /// A node that is ready to serve.
 #[derive(Drop)]
 pub(crate) struct Started<F> {
-    /// Held as long as the node runs.
-    pub(crate) lock: DirectoryLock<F>,
     pub(crate) replica: Replica<PackedArchive>,
     pub(crate) beginning: Beginning<F>,
 }
@@ -35,8 +36,9 @@ pub(crate) struct Started<F> {
 #[derive(Drop)]
 pub(crate) struct Beginning<F> {
     pub(crate) logbook: Logbook<F>,
-    /// The origin of this start.
-    pub(crate) origin: Origin,
+    pub(crate) origins: OwnOrigins,
+    /// Held until the origin is named.
+    pub(crate) spare: Option<F>,
     /// How far the journals of peers were read, by their ids.
     pub(crate) cursors: Vec<Cursor>,
 }
@@ -45,6 +47,7 @@ pub(crate) struct Beginning<F> {
 #[derive(Drop)]
 struct Contents {
     files: Start,
+    origins: OwnOrigins,
     replica: Replica<PackedArchive>,
     /// What else its files have.
     recovered: Recovered,
@@ -52,8 +55,8 @@ struct Contents {
     is_loaded: bool,
 }
 
-/// Opens and locks a directory.
-fn open_directory<'a, R>(
+/// Opens and locks a directory. The lock is held as long as the node runs.
+pub(crate) fn open_directory<'a, R>(
     rt: &'a R,
     path: &'a str,
 ) -> Result<(DataDirectory<'a, R>, DirectoryLock<R::File>), Ending>
@@ -120,27 +123,27 @@ fn new_cursor<R: RandomSource>(rt: &R, offset: u64) -> io::Result<Cursor> {
     })
 }
 
-/// The journal's last file, to go on after what was read of it, or a first one; and the journal's
-/// end.
+/// The journal's last file, to go on after what was read of it, or a first one; its name; and the
+/// journal's end.
 fn open_journal<R: AllocGlobal + Files + RandomSource>(
     rt: &R,
     directory: &DataDirectory<'_, R>,
     files: &[FileName],
     recovered: &Recovered,
     config: &NodeConfig,
-) -> io::Result<(JournalFile<R::File>, Cursor)> {
+) -> io::Result<(JournalFile<R::File>, FileName, Cursor)> {
     let alloc = rt.alloc();
     let cursor = match recovered.end {
         Some(end) => end,
         None => new_cursor(rt, 0)?,
     };
-    let journal = match files.last() {
-        Some(FileName::Journal(offset)) => {
-            directory.open_journal(alloc, FileName::Journal(*offset), recovered.torn)?
-        }
-        _ => directory.create_journal(alloc, &cursor, &config.schema)?,
-    };
-    Ok((journal, cursor))
+    if let Some(FileName::Journal(offset)) = files.last() {
+        let name = FileName::Journal(*offset);
+        let journal = directory.open_journal(alloc, name, recovered.torn)?;
+        return Ok((journal, name, cursor));
+    }
+    let journal = directory.create_journal(alloc, &cursor, &config.schema)?;
+    Ok((journal, FileName::Journal(cursor.offset), cursor))
 }
 
 /// The offset from which on no checkpoint is written, and the size in bytes of the newest one: the
@@ -177,6 +180,7 @@ fn with_archive<R: AllocGlobal + Files + Eprint + RandomSource + Wait>(
     older: Contents,
 ) -> Result<Contents, Ending> {
     let Contents {
+        origins,
         replica,
         mut recovered,
         ..
@@ -192,8 +196,11 @@ fn with_archive<R: AllocGlobal + Files + Eprint + RandomSource + Wait>(
     let replica = upgraded(rt, path, directory, replica, &config.schema, begins)?;
     recovered.end = Some(begins);
     recovered.torn = 0;
+    // The journal that begins has no record of an origin.
+    recovered.found.origin = None;
     Ok(Contents {
         files: files_of(rt, path, directory)?,
+        origins,
         replica,
         recovered,
         is_loaded: false,
@@ -214,10 +221,12 @@ fn loaded<R: AllocGlobal + Files + Eprint>(
         return Err(Ending::Stopped);
     }
     let schema = &config.schema;
-    let origin = next_origin(rt, path, directory, &files, schema, config)?;
+    let origins = own_origins(rt, directory, &files, schema, config)?;
+    let origin = origins.next;
     let (_, recovered) = recovered(rt, path, directory, &files.files, schema, origin)?;
     Ok(Contents {
         files,
+        origins,
         replica: load_replica(rt, file, schema, origin)?,
         recovered,
         is_loaded: true,
@@ -237,10 +246,12 @@ fn contents_of<R: AllocGlobal + Files + Eprint + RandomSource + Wait>(
         Some(older) => older,
         None => &config.schema,
     };
-    let origin = next_origin(rt, path, directory, &files, schema, config)?;
+    let origins = own_origins(rt, directory, &files, schema, config)?;
+    let origin = origins.next;
     let (replica, recovered) = recovered(rt, path, directory, &files.files, schema, origin)?;
     let contents = Contents {
         files,
+        origins,
         replica,
         recovered,
         is_loaded: false,
@@ -251,7 +262,23 @@ fn contents_of<R: AllocGlobal + Files + Eprint + RandomSource + Wait>(
     }
 }
 
-/// The journal, with the origin of this start recorded in it, and with what the files lack.
+/// Records the greatest origin taken before, if the files that are read don't have it last: those
+/// that have it may go.
+fn record_last<F: Write + Seek + OpenFile>(
+    alloc: Global,
+    contents: &Contents,
+    journal: &mut JournalFile<F>,
+    cursor: &mut Cursor,
+) -> Result<(), ChangesFault> {
+    match contents.origins.last {
+        Some(last) if contents.recovered.found.origin != Some(last) => {
+            commit_origin(alloc, last, journal, cursor)
+        }
+        _ => Ok(()),
+    }
+}
+
+/// The journal, with what the files lack.
 fn begun<R: AllocGlobal + Files + Eprint + RandomSource>(
     rt: &R,
     config: &NodeConfig,
@@ -262,12 +289,11 @@ fn begun<R: AllocGlobal + Files + Eprint + RandomSource>(
     let alloc = rt.alloc();
     let (files, replica) = (&contents.files.files, &contents.replica);
     let opened = open_journal(rt, directory, files, &contents.recovered, config);
-    let (mut journal, mut cursor) = match opened {
+    let (mut journal, name, mut cursor) = match opened {
         Ok(opened) => opened,
         Err(error) => return Err(failed(rt, path, &error)),
     };
-    let origin = replica.origin();
-    if commit_origin(alloc, origin, &mut journal, &mut cursor).is_err()
+    if record_last(alloc, contents, &mut journal, &mut cursor).is_err()
         || (contents.is_loaded
             && commit_replica(alloc, replica, &mut journal, &mut cursor).is_err())
     {
@@ -276,6 +302,8 @@ fn begun<R: AllocGlobal + Files + Eprint + RandomSource>(
     let (since, checkpoint) = newest_checkpoint(alloc, directory, files);
     Ok(Logbook {
         journal,
+        name,
+        seen: None,
         cursor,
         since,
         checkpoint,
@@ -283,43 +311,40 @@ fn begun<R: AllocGlobal + Files + Eprint + RandomSource>(
     })
 }
 
-/// Opens a directory, recovers what its files have, takes a new origin and records it. With `load`
-/// the directory must be new, and begins with the snapshot in that file. If the configuration has
-/// one archive more than the files, it is added.
+/// Recovers what the files of an open directory have, under an origin that no start of it has
+/// taken. With `load` the directory must be new, and begins with the snapshot in that file. If the
+/// configuration has one archive more than the files, it is added.
 pub(crate) fn start<R>(
     rt: &R,
     config: &NodeConfig,
-    path: &str,
+    directory: &DataDirectory<'_, R>,
     load: Option<&str>,
 ) -> Result<Started<R::File>, Ending>
 where
     R: AllocGlobal + Files + Eprint + RandomSource + Wait,
-    R::File: TryLock,
 {
-    let (directory, lock) = open_directory(rt, path)?;
-    let files = files_of(rt, path, &directory)?;
+    let path = directory.path();
+    let files = files_of(rt, path, directory)?;
     let contents = match load {
-        Some(file) => loaded(rt, config, path, &directory, files, file)?,
-        None => contents_of(rt, config, path, &directory, files)?,
+        Some(file) => loaded(rt, config, path, directory, files, file)?,
+        None => contents_of(rt, config, path, directory, files)?,
     };
-    let logbook = begun(rt, config, path, &directory, &contents)?;
+    let logbook = begun(rt, config, path, directory, &contents)?;
     for name in &contents.files.needless {
         // What stays is still needless at the next start.
         let _removed = directory.remove(rt.alloc(), *name);
     }
     let Contents {
+        origins,
         replica,
         recovered,
         ..
     } = contents;
     let beginning = Beginning {
         logbook,
-        origin: replica.origin(),
+        origins,
+        spare: directory.spare(rt.alloc()).ok(),
         cursors: recovered.found.cursors,
     };
-    Ok(Started {
-        lock,
-        replica,
-        beginning,
-    })
+    Ok(Started { replica, beginning })
 }

@@ -36,6 +36,20 @@ impl Clock for Later {
     }
 }
 
+/// A clock that is set before 1970.
+#[derive(Drop)]
+struct Early;
+
+impl Clock for Early {
+    fn monotonic(&self) -> io::Result<Duration> {
+        Err(io::Error::from(ErrorKind::Unsupported))
+    }
+
+    fn since_1970(&self) -> io::Result<Duration> {
+        Err(io::Error::from(ErrorKind::InvalidData))
+    }
+}
+
 /// How many one-minute cells there are after this many connections, each with the lines.
 fn cells_after<R: Wait>(rt: &R, alloc: Global, connections: usize) -> Option<usize> {
     let replica = minutes::<PackedArchive>(alloc, 1, 3).ok()?;
@@ -70,4 +84,30 @@ fn lines_have_the_moment_of_their_piece(rt: HostRuntime) -> Result<(), Fail> {
     assert!(rt; cells_after(&rt, rt.alloc(), 1) == Some(1));
     assert!(rt; cells_after(&rt, rt.alloc(), 2) == Some(2));
     Ok(())
+}
+
+/// How many lines are refused of one whose time is that of 1970, a second ahead of which points may
+/// be, under a clock that is set before that.
+fn refused_early<R: Wait>(rt: &R, alloc: Global) -> Option<u64> {
+    let replica = minutes::<PackedArchive>(alloc, 1, 3).ok()?;
+    let (mut keeper, _readers) = open(alloc, rt, replica, 1).ok()?;
+    let mut input = Counted::new(b"m v=1i 0\n".as_slice());
+    let mut output = Counted::new(Vec::new(alloc));
+    let served = serve_lines(
+        alloc,
+        &mut input,
+        &mut output,
+        &mut keeper,
+        &mut SystemClock::behind(Early),
+        Precision::Ns,
+        Some(1_000_000_000),
+        rt,
+    );
+    keeper.close(rt);
+    Some(served.ok()?.refused)
+}
+
+#[test]
+fn a_clock_before_1970_is_behind_every_point(rt: HostRuntime) {
+    assert_eq!(rt; refused_early(&rt, rt.alloc()), Some(1));
 }
