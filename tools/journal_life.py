@@ -9,8 +9,8 @@ import random
 import struct
 import sys
 
-from journal_model import CELLS, CURSOR_KIND, FIRST, ORIGIN, START_DIGEST, Cursor, Record
-from journal_model import cells_body, digest, file_name, header_bytes, is_live, link, undigested
+from journal_model import CELLS, CURSOR_KIND, KEY_NAME, ORIGIN, START_DIGEST, Cursor, Record
+from journal_model import cells_body, digest, file_name, header_bytes, is_live, link, witness_record, undigested
 from packed_model import BILLION, Archive, Cell, Schema
 
 class Node:
@@ -87,6 +87,7 @@ KEYS = [
 ]
 ID = bytes(range(16))
 PEER_ID = bytes(range(255, 239, -1))
+KEY = bytes(range(100, 116))
 
 # The most samples taken between two writes, and the most groups in a record.
 MOST_AT_ONCE = 20
@@ -130,19 +131,18 @@ def batches(seed, samples):
 
 
 def appended(cursor, records):
-    """The bytes of a batch that follows a cursor, and the cursor after it."""
+    """The bytes of a batch that follows a cursor, behind its witness, and the cursor after it."""
     text = bytearray()
-    for number, record in enumerate(records):
-        record = record._replace(kind=record.kind + (FIRST if number == 0 else 0))
+    for record in [witness_record(KEY, cursor.offset), *records]:
         text += undigested(record) + link(cursor.digest, record)
         cursor = cursor.behind(record)
     return bytes(text), cursor
 
 
 def journal(seed, samples):
-    """The files of a journal by name: the second begins once the first has half of the batches."""
+    """The files of a directory by name: the key, and a journal whose second file begins after half of the batches."""
     cursor = Cursor(ID, 0, START_DIGEST)
-    files = {}
+    files = {KEY_NAME: KEY}
     life = list(batches(seed, samples))
     for number, records in enumerate(life):
         if number in (0, len(life) // 2):

@@ -19,7 +19,8 @@ import typing
 from packed_model import ARCHIVE, STEP, Archive, Fault, Input, Schema, pack, unpack
 
 MAGIC = b"RRJN"
-VERSION = 1
+VERSION = 2
+VERSIONS = (1, 2)
 DECIMALS = 0
 DIGEST_LEN = 8
 START_DIGEST = bytes(DIGEST_LEN)
@@ -30,10 +31,15 @@ LENGTH_AT = 6
 # The head of a record: the length of its body, and its kind.
 HEAD = struct.Struct(">IB")
 CURSOR = struct.Struct(">16sQ8s")
-MOST_BODY = 1_048_563
+MOST_BODY = 1_048_542
 MOST_UNSYNCED = 1_048_576
-CELLS, ORIGIN, CURSOR_KIND, END = 1, 2, 3, 4
+CELLS, ORIGIN, CURSOR_KIND, END, WITNESS = 1, 2, 3, 4, 5
 FIRST = 128
+
+# The file of a directory with the key of its witnesses, and the first bytes of a witness's record.
+KEY_NAME = "key"
+KEY_LEN = 16
+WITNESS_HEAD = HEAD.pack(DIGEST_LEN, WITNESS + FIRST)
 
 MOST_KEY = 1_024
 MOST_TAGS = 32
@@ -159,6 +165,10 @@ def meaning(schema, record):
         count = text.number(8)
         text.end()
         return "end", count
+    if kind == WITNESS:
+        witness = text.take(DIGEST_LEN)
+        text.end()
+        return "witness", witness.hex()
     raise Fault("BadKind")
 
 
@@ -171,9 +181,12 @@ def header_bytes(schema, cursor):
 def read_header(schema, text):
     """The cursor at which a file begins."""
     layout = schema.bytes()
-    for name, right in (("BadMagic", MAGIC), ("BadVersion", bytes([VERSION])), ("BadDecimals", bytes([DECIMALS]))):
-        if text.take(len(right)) != right:
-            raise Fault(name)
+    if text.take(len(MAGIC)) != MAGIC:
+        raise Fault("BadMagic")
+    if text.number(1) not in VERSIONS:
+        raise Fault("BadVersion")
+    if text.number(1) != DECIMALS:
+        raise Fault("BadDecimals")
     if text.number(2) != len(layout) or text.take(len(layout)) != layout:
         raise Fault("SchemaDiffers")
     cursor = Cursor(*CURSOR.unpack(text.take(CURSOR.size)))
@@ -213,6 +226,28 @@ def stop(text):
         return "Torn" if left else "End"
     (length,) = struct.unpack_from(">I", text.data, text.at)
     return "Damaged TooLong" if length > MOST_BODY else "Damaged BadDigest"
+
+
+# ---- witnesses
+
+
+def witness_of(key, offset):
+    """The witness of an offset under a key."""
+    return digest(key + struct.pack(">Q", offset))
+
+
+def witness_record(key, offset):
+    return Record(WITNESS + FIRST, witness_of(key, offset))
+
+
+def was_synced(key, offset, left):
+    """Whether bytes from an offset on have a witness behind their first byte."""
+    at = left.find(WITNESS_HEAD, 1)
+    while at >= 0:
+        if left[at + len(WITNESS_HEAD) :].startswith(witness_of(key, offset + at)):
+            return True
+        at = left.find(WITNESS_HEAD, at + 1)
+    return False
 
 
 # ---- what a replay makes
@@ -270,10 +305,14 @@ class Reading(typing.NamedTuple):
     end: Cursor
 
 
-def read_file(schema, data):
+def read_file(schema, data, key=None):
+    """What is read from a file; with the key, a witness among the bytes that are left shows that they were synced."""
     text = Input(data)
     cursor = read_header(schema, text)
-    return Reading(cursor, *read_records(text, cursor))
+    reading = Reading(cursor, *read_records(text, cursor))
+    if key and reading.stop == "Torn" and was_synced(key, reading.end.offset, data[text.at :]):
+        return reading._replace(stop="Damaged BadDigest")
+    return reading
 
 
 def why_apart(before, begins):
@@ -298,14 +337,22 @@ def why_refused(schema, name, reading, before, is_last):
     return "Torn" if reading.stop == "Torn" and not is_last else None
 
 
+def journals(files):
+    """The names of the journal's files, in order."""
+    return sorted(name for name in files if name != KEY_NAME)
+
+
 def read_files(schema, files):
     """What a start reads from files, given by name."""
+    key = files.get(KEY_NAME)
+    names = journals(files)
     readings = []
-    for number, name in enumerate(sorted(files)):
+    for number, name in enumerate(names):
+        is_last = number + 1 == len(names)
         try:
-            reading = read_file(schema, files[name])
+            reading = read_file(schema, files[name], key if is_last else None)
             before = readings[-1].end if readings else Cursor(reading.begins.id, 0, START_DIGEST)
-            why = why_refused(schema, name, reading, before, number + 1 == len(files))
+            why = why_refused(schema, name, reading, before, is_last)
         except Fault as fault:
             why = str(fault)
         if why:
@@ -341,12 +388,13 @@ def schema_in(data):
 
 def started(files):
     """The schema of files, given by name, and what is read from them."""
-    schema = schema_in(files[min(files)])
+    schema = schema_in(files[journals(files)[0]])
     return schema, read_files(schema, files)
 
 
 def read_directory(folder):
-    return {file.name: file.read_bytes() for file in pathlib.Path(folder).glob("journal-*.rrj")}
+    found = [*pathlib.Path(folder).glob("journal-*.rrj"), *pathlib.Path(folder).glob(KEY_NAME)]
+    return {file.name: file.read_bytes() for file in found}
 
 
 # ---- a case: what `rr_cases` says about the changed bytes of a file (crates/rr_cases/src/journals.rt)

@@ -8,7 +8,8 @@ PROGRAM is the built program, crates/rr_tool/out/rr_tool. The journal is that of
 by default, of several series, archives and origins, with cells of its peers in between, and was restarted a few times.
 It has two files: the first is cut and changed alone, and with the second after it, and so is the second, after the
 first. `rr journal cells DIR` has to print what the model does: the cells, with status 0, or the line that refuses the
-directory, with status 1.
+directory, with status 1. Where a byte is changed and a node starts all the same, nothing may be lost but the last batch,
+behind which no witness shows that it was synced.
 
 Prints how many were tried, and ends with status 1 if one was read differently. With 1,000 samples there are about
 230,000, each a run of the program.
@@ -69,6 +70,21 @@ class Sweep:
             return 1, str(refused).encode()
         return 0, self.text(*(len(reading.records) for reading in readings))
 
+    def loses_more(self, files):
+        """Whether a node that starts from changed files lacks more than the last batch of the unchanged ones."""
+        try:
+            _, readings = model.started(files)
+        except model.Refused:
+            return False
+        return len(readings[-1].records) < self.before_the_last_batch
+
+    @functools.cached_property
+    def before_the_last_batch(self):
+        """How many records of the last file come before its last witness."""
+        _, readings = model.started(self.files)
+        kinds = [record.kind for record in readings[-1].records]
+        return len(kinds) - 1 - kinds[::-1].index(model.WITNESS + model.FIRST)
+
     def got(self, folder):
         words = [self.program, "journal", "cells", folder]
         ran = subprocess.run(words, capture_output=True, timeout=LONGEST, check=False)
@@ -84,7 +100,8 @@ class Sweep:
             for at in places:
                 data = WAYS[way](self.files[self.name], at)
                 (folder / self.name).write_bytes(data)
-                if self.got(folder) != self.wanted({**self.files, self.name: data}):
+                files = {**self.files, self.name: data}
+                if self.got(folder) != self.wanted(files) or (way == "changed" and self.loses_more(files)):
                     wrong.append(at)
         return wrong
 
@@ -107,9 +124,10 @@ def main():
         sys.exit(__doc__)
     program = pathlib.Path(sys.argv[1]).resolve()
     files = journal_life.journal(*journal_life.numbers(sys.argv[2:]))
-    first, second = sorted(files)
+    key = {model.KEY_NAME: files[model.KEY_NAME]}
+    first, second = model.journals(files)
     sweeps = [
-        Sweep(program, {first: files[first]}, first),
+        Sweep(program, {**key, first: files[first]}, first),
         Sweep(program, files, first),
         Sweep(program, files, second),
     ]

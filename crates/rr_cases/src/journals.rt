@@ -101,7 +101,14 @@ fn push_meaning(alloc: Global, output: &mut String, record: &Record) -> Result<(
         Record::Origin(origin) => write!(output, "origin {}\n", origin.get()),
         Record::Cursor(cursor) => push_cursor(alloc, output, cursor),
         Record::End(count) => write!(output, "end {count}\n"),
+        Record::Witness(witness) => push_witness(alloc, output, witness),
     }
+}
+
+fn push_witness(alloc: Global, output: &mut String, witness: &[u8]) -> Result<(), AllocError> {
+    let witness = hex::encode(alloc, witness)?;
+    let witness = witness.as_str();
+    write!(output, "witness {witness}\n")
 }
 
 fn push_cursor(alloc: Global, output: &mut String, cursor: &Cursor) -> Result<(), AllocError> {

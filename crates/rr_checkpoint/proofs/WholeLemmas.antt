@@ -14,7 +14,7 @@ use Rattle.rr_journal.specs.declared.cursor.Cursor.{Cursor}
 use Rattle.rr_journal.specs.declared.fault.JournalFault.{JournalFault}
 use Rattle.rr_journal.specs.declared.step.Stop.{Stop}
 use Rattle.rr_journal.specs.declared.step.Stop.TheVariants.{End}
-use Rattle.rr_journal.specs.Body.{Meaning, HasCells, HasOrigin, HasJoined, HasEnded, record_meaning}
+use Rattle.rr_journal.specs.Body.{Meaning, HasCells, HasOrigin, HasJoined, HasEnded, HasWitness, record_meaning}
 use Rattle.rr_journal.specs.Cursor.{behind_all}
 use Rattle.rr_journal.specs.Text.{Raw}
 use Rattle.rr_journal.proofs.BodyLemmas.{bodies_are_read}
@@ -74,6 +74,7 @@ meaning_counted x y (HasOrigin origin) fits e =
     counts_none x y fits (same_count _ y x (unused_ok (origin == x.replica.origin) _ y e) refl)
 meaning_counted x y (HasJoined cursor) fits e = counts_none x y fits (same_count _ y x e refl)
 meaning_counted x y (HasEnded count) fits e = counts_none x y fits (same_count _ y x e refl)
+meaning_counted x y (HasWitness witness) fits e = counts_none x y fits (same_count _ y x e refl)
 
 records_counted : (s : Layout) (x y : Recovery) (rs : List Raw) (ms : List Meaning) → x.replica.schema ≡ s
     → x.found.cells < 2 ^ 64 → meanings_of s rs ≡ Ok ms → taken_records x rs ≡ Ok y

@@ -1,6 +1,7 @@
 -- Records that are committed batch by batch.
-use Rattle.std.proofs.Common.{◌≡◌, ◌≢◌, inl, inr, ℕ, suc, ◌+◌, ◌-◌, ◌<◌, ◌≤◌, Bool, true, false, true≢false, List, [], ◌∷◌, ◌++◌, length, map, append-nil, subst, None, refl, sym, ap, ◌∙◌, append_assoc, arith, Option}
+use Rattle.std.proofs.Common.{◌≡◌, inl, inr, ℕ, suc, ◌+◌, ◌<◌, ◌≤◌, Bool, true, false, true≢false, List, [], ◌∷◌, ◌++◌, length, map, append-nil, subst, None, refl, sym, ap, ◌∙◌, append_assoc, arith, Option}
 use Rattle.std.specs.Prelude.{◌^◌, Err, IfErr, MatchBool, Ok, Result, nat_lt}
+use Rattle.std.specs.Int.{w64, to_be_bytes}
 use Rattle.std.specs.List.{AllByRecursion}
 use Rattle.std.specs.FinMap.{entries}
 use Rattle.std.proofs.lemmas.Bool.Decides.{nat_tests}
@@ -12,6 +13,7 @@ use Rattle.rr_desk.specs.KeeperState.{KeeperState, cells_of, written_cells}
 use Rattle.rr_desk.specs.Written.{CoverChanges}
 use Rattle.rr_journal.specs.declared.raw.RawRecord.{RawRecord}
 use Rattle.rr_journal.specs.declared.raw.TheConstants.{MAX_BODY_LEN}
+use Rattle.rr_journal.specs.declared.witness.TheConstants.{WITNESS_LEN}
 use Rattle.rr_journal.specs.declared.step.TheConstants.{MAX_UNSYNCED}
 use Rattle.std.specs.Io.KnownBytes.{append_known}
 use Rattle.rr_journal.specs.declared.committing.CommitFault.{CommitFault}
@@ -19,16 +21,19 @@ use Rattle.rr_journal.specs.declared.committing.CommitFault.TheVariants.{NotWrit
 use Rattle.rr_journal.specs.declared.cursor.Cursor.{Cursor}
 use Rattle.rr_journal.specs.Cursor.{behind_all, moved_by}
 use Rattle.rr_journal.specs.Keeping.{Commits, Committed}
-use Rattle.rr_journal.specs.Text.{Raw, raw_of, after, batch_of, chain, record_text, records_len, records_text}
+use Rattle.rr_journal.specs.Text.{Raw, raw_of, after, chain, record_text, records_len, records_text}
+use Rattle.rr_journal.specs.Witness.{IsWitness, batch_of, witness_record}
+use Rattle.rr_journal.proofs.RecordLemmas.{cut_len}
 use Rattle.rr_journal.proofs.KeepingLemmas.{append_none, append_twice}
-use Rattle.rr_commit.specs.Committing.{AreMarked, CommitsAll, CommitsChanges, IsCommitted}
+use Rattle.rr_commit.specs.Committing.{AreWitnessed, CommitsAll, CommitsChanges, IsCommitted}
 use Rattle.rr_commit.specs.Records.{AreRecordsOf}
 
 -- ---- one record
 
--- one record, or none, may be written between two syncs
+-- one record, or none, may be written between two syncs, after a witness
 pub few_of_one : (rs : List RawRecord) → length rs < 2
-    → AllByRecursion (λ raw. length raw.body.items ≤ MAX_BODY_LEN) rs → records_len (map raw_of rs) ≤ MAX_UNSYNCED
+    → AllByRecursion (λ raw. length raw.body.items ≤ MAX_BODY_LEN) rs
+    → WITNESS_LEN + records_len (map raw_of rs) ≤ MAX_UNSYNCED
 few_of_one [] lt fit = omega arith
 few_of_one (r ∷ []) lt fit = let one = fit.0 in omega (arith, one)
 few_of_one (r ∷ s ∷ rs) lt fit = absurd (omega (arith, lt))
@@ -38,21 +43,27 @@ pub if_refused : {T E : Type 0} {P : E → Type 0} (result : Result T E) → ((f
 if_refused (Ok done) all = tt
 if_refused (Err fault) all = all fault
 
--- ---- records that are marked
+-- ---- records that are witnessed
 
-marked_same : (rs : List Raw) → AreMarked rs rs
-marked_same [] = tt
-marked_same (r ∷ rs) = (inl refl, marked_same rs)
+witnessed_same : (rs : List Raw) → AreWitnessed rs rs
+witnessed_same [] = tt
+witnessed_same (r ∷ rs) = inr (refl, witnessed_same rs)
 
-batch_marked : (rs : List Raw) → AreMarked rs (batch_of rs)
-batch_marked [] = tt
-batch_marked (r ∷ rs) = (inr refl, marked_same rs)
+witness_first : (rs : List Raw) (w : Raw) (ws : List Raw) → IsWitness w → AreWitnessed rs ws → AreWitnessed rs (w ∷ ws)
+witness_first [] w ws is a = (is, a)
+witness_first (r ∷ rs) w ws is a = inl (is, a)
 
-marked_append : (rs qs ws vs : List Raw) → AreMarked rs ws → AreMarked qs vs → AreMarked (rs ++ qs) (ws ++ vs)
-marked_append [] qs [] vs a b = b
-marked_append [] qs (w ∷ ws) vs a b = absurd a
-marked_append (r ∷ rs) qs [] vs a b = absurd a
-marked_append (r ∷ rs) qs (w ∷ ws) vs a b = (a.0, marked_append rs qs ws vs a.1 b)
+batch_witnessed : (key : List ℕ) (offset : ℕ) (rs : List Raw) → AreWitnessed rs (batch_of key offset rs)
+batch_witnessed key offset rs =
+    witness_first rs (witness_record key offset) rs (refl, cut_len (key ++ to_be_bytes w64 offset)) (witnessed_same rs)
+
+witnessed_append : (rs qs ws vs : List Raw) → AreWitnessed rs ws → AreWitnessed qs vs → AreWitnessed (rs ++ qs) (ws ++ vs)
+witnessed_append [] qs [] vs a b = b
+witnessed_append [] qs (w ∷ ws) vs a b = witness_first qs w (ws ++ vs) a.0 (witnessed_append [] qs ws vs a.1 b)
+witnessed_append (r ∷ rs) qs [] vs a b = absurd a
+witnessed_append (r ∷ rs) qs (w ∷ ws) vs (inl a) b =
+    witness_first (r ∷ (rs ++ qs)) w (ws ++ vs) a.0 (witnessed_append (r ∷ rs) qs ws vs a.1 b)
+witnessed_append (r ∷ rs) qs (w ∷ ws) vs (inr a) b = inr (a.0, witnessed_append rs qs ws vs a.1 b)
 
 -- ---- records one after the other
 
@@ -99,7 +110,7 @@ pub is_committed_twice : (old mid new half text : Option (List ℕ)) (before bet
     → IsCommitted (rs ++ qs) old new text before cursor
 is_committed_twice old mid new half text before between cursor rs qs a b = record {
   records = a.records ++ b.records;
-  marked = marked_append rs qs a.records b.records a.marked b.marked;
+  witnessed = witnessed_append rs qs a.records b.records a.witnessed b.witnessed;
   committed = committed_twice old mid new half text before between cursor a.records b.records a.committed b.committed;
 }
 
@@ -115,20 +126,27 @@ nothing_committed k text c lt same = record {
     moved_none : (o : ℕ) → o < 2 ^ 64 → o ≡ moved_by 0 o
     moved_none o lt = omega (arith, lt)
 
+-- where there is nothing to commit
+pub nothing_to_commit : (rs : List RawRecord) (k text : Option (List ℕ)) (c : Cursor) → length rs ≡ 0
+    → c.offset < 2 ^ 64 → text ≡ k → IsCommitted (map raw_of rs) k k text c c
+nothing_to_commit [] k text c none lt same =
+    record { records = []; witnessed = tt; committed = nothing_committed k text c lt same }
+nothing_to_commit (r ∷ rs) k text c none lt same = absurd (omega (arith, none))
+
 -- a batch
-pub one_batch : (rs : List Raw) (old new text : Option (List ℕ)) (before cursor : Cursor)
+pub one_batch : (key : List ℕ) (rs : List Raw) (old new text : Option (List ℕ)) (before cursor : Cursor)
     (result : Result (Unit {0}) CommitFault) → before.offset < 2 ^ 64
-    → Commits old new text before cursor (batch_of rs) result → CommitsAll rs old new text before cursor result
+    → Commits old new text before cursor (batch_of key before.offset rs) result → CommitsAll rs old new text before cursor result
 unfolding records_text
-one_batch rs old new text before cursor (Ok done) fits is =
-    record { records = batch_of rs; marked = batch_marked rs; committed = is }
-one_batch rs old new text before cursor (Err NotWritten) fits is = (
+one_batch key rs old new text before cursor (Ok done) fits is =
+    record { records = batch_of key before.offset rs; witnessed = batch_witnessed key before.offset rs; committed = is }
+one_batch key rs old new text before cursor (Err NotWritten) fits is = (
   [],
   rs,
   refl,
   record {
     records = [];
-    marked = tt;
+    witnessed = tt;
     committed = record {
       synced = is.synced ∙ sym (append_none old);
       nothing_more = is.nothing_more ∙ sym is.synced;
@@ -142,7 +160,7 @@ one_batch rs old new text before cursor (Err NotWritten) fits is = (
 
     stays : (c : Cursor) → c.offset < 2 ^ 64 → c ≡ behind_all c []
     stays c lt = λ i. record { id = c.id; offset = same c.offset lt i; digest = c.digest }
-one_batch rs old new text before cursor (Err NotSynced) fits is = is.0
+one_batch key rs old new text before cursor (Err NotSynced) fits is = is.0
 
 -- the first half was committed, and then the other one, or not
 pub then_others : (rs qs : List Raw) (old mid new half text : Option (List ℕ)) (before between cursor : Cursor)
@@ -188,7 +206,7 @@ changes_committed k series raws old new text before cursor cover of is = record 
   cells = changes_among k.schema series (entries (cells_of k));
   of = record {
     meanings = of.meanings;
-    marked = subst (λ rs. AreMarked rs is.records) of.text is.marked;
+    witnessed = subst (λ rs. AreWitnessed rs is.records) of.text is.witnessed;
     has = of.has;
   };
   committed = is.committed;

@@ -8,21 +8,22 @@ use Rattle.rr_journal.specs.declared.committing.CommitFault.TheVariants.{NotWrit
 use Rattle.rr_journal.specs.declared.cursor.Cursor.{Cursor}
 use Rattle.rr_journal.specs.Body.{Meaning, raw_text}
 use Rattle.rr_journal.specs.Keeping.{Committed, Grows}
-use Rattle.rr_journal.specs.Text.{Raw, as_first}
+use Rattle.rr_journal.specs.Text.{Raw}
+use Rattle.rr_journal.specs.Witness.{IsWitness}
 use Rattle.rr_recovery.specs.Joining.{cells_of_record}
 use Rattle.rr_desk.specs.KeeperState.{KeeperState, cells_of, written_cells}
 
--- these records, some of them marked as the first after a sync
-abbrev pub AreMarked : List Raw → List Raw → Type 0
-AreMarked [] [] = Unit {0}
-AreMarked [] (w ∷ ws) = ⊥
-AreMarked (r ∷ rs) [] = ⊥
-AreMarked (r ∷ rs) (w ∷ ws) = ((w ≡ r) ⊎ (w ≡ as_first r)) × AreMarked rs ws
+-- these records, with witnesses among them
+abbrev pub AreWitnessed : List Raw → List Raw → Type 0
+AreWitnessed [] [] = Unit {0}
+AreWitnessed [] (w ∷ ws) = IsWitness w × AreWitnessed [] ws
+AreWitnessed (r ∷ rs) [] = ⊥
+AreWitnessed (r ∷ rs) (w ∷ ws) = (IsWitness w × AreWitnessed (r ∷ rs) ws) ⊎ ((w ≡ r) × AreWitnessed rs ws)
 
 -- these records were committed, one after the other
 pub record IsCommitted (rs : List Raw) (old new text : Option (List ℕ)) (before cursor : Cursor) : Type 0 where
   pub records : List Raw
-  pub marked : AreMarked rs records
+  pub witnessed : AreWitnessed rs records
   pub committed : Committed old new text before cursor records
 
 -- all of these were, or only a prefix of them; or, if the journal can't be synced or cut back, what was synced may have
@@ -34,10 +35,10 @@ CommitsAll rs old new text before cursor (Err NotWritten) =
     (first : List Raw) × (left : List Raw) × (first ++ left ≡ rs) × IsCommitted first old new text before cursor
 CommitsAll rs old new text before cursor (Err NotSynced) = Grows old new
 
--- records of these cells, one after the other, some of them marked
+-- records of these cells, one after the other, with witnesses among them
 pub record HaveCells (records : List Raw) (cells : List NamedCell) : Type 0 where
   pub meanings : List Meaning
-  pub marked : AreMarked (map raw_text meanings) records
+  pub witnessed : AreWitnessed (map raw_text meanings) records
   pub has : flat_map cells_of_record meanings ≡ cells
 
 -- some records were committed, or none

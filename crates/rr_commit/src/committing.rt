@@ -9,7 +9,7 @@ use rr_journal::{CommitFault, Cursor, Journal, RawRecord, commit, fits_between_s
 
 /// Commits records, in batches of no more than may be written between two syncs: too many are
 /// halved, and each half is committed on its own. `cursor` is the end of the journal, and moves
-/// with it.
+/// with it. With no records, nothing is done.
 ///
 /// All that was written before must be synced. Refused as [`commit`] refuses a batch; the batches
 /// before it stay.
@@ -25,6 +25,9 @@ pub fn commit_all<J: Journal>(
 {
     // The proof needs the offset to be one of 64 bits.
     let _offset = cursor.offset;
+    if records.is_empty() {
+        return Ok(());
+    }
     if records.len() < 2 || fits_between_syncs(records) {
         return commit(journal, cursor, records);
     }

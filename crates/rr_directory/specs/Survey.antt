@@ -1,15 +1,19 @@
 -- What reading a file by itself gives.
-use Rattle.std.specs.Prelude.{◌≡◌, ℕ, List, length, Result, Ok, Err}
+use Rattle.std.specs.Prelude.{◌≡◌, ℕ, ◌-◌, List, length, Option, Result, Ok, Err, if◌then◌else◌}
 use Rattle.rr_text.specs.Results.{◌>>=◌}
 use Rattle.rr_schema.specs.Schema.{Layout}
 use Rattle.rr_journal.specs.declared.cursor.Cursor.{Cursor}
-use Rattle.rr_journal.specs.Cursor.{behind_all}
+use Rattle.rr_journal.specs.Cursor.{behind_all, moved_by}
+use Rattle.rr_journal.specs.Header.{header_len}
 use Rattle.rr_recovery.specs.Taking.{Recovery, taken_records}
 use Rattle.rr_directory.specs.declared.fault.FileFault.{FileFault}
 use Rattle.rr_directory.specs.declared.name.FileName.{FileName}
 use Rattle.rr_directory.specs.declared.report.FileEnding.{FileEnding}
+use Rattle.rr_directory.specs.declared.report.FileEnding.TheVariants.{End, Torn, Damaged, Refused}
+use Rattle.rr_directory.specs.Names.{offset_of}
 use Rattle.rr_directory.specs.Reading.{IsFileFault, as_file, bytes_before, file_records, file_stop, place_of}
 use Rattle.rr_directory.specs.Report.{ending_of}
+use Rattle.rr_directory.specs.Tail.{is_synced_tail}
 
 -- what the records of a file make
 abbrev pub taken_file : Layout → FileName → Recovery → List ℕ → Result Recovery FileFault
@@ -23,3 +27,15 @@ Surveys s name bytes old new (Ok ending) =
     → ending ≡ ending_of (file_stop s begins bytes) (length bytes)
     (bytes_before s begins (behind_all begins (file_records s begins bytes))))
 Surveys s name bytes old new (Err fault) = IsFileFault (taken_file s name old bytes) fault
+
+-- the offset of the journal at which the last bytes of a file begin
+abbrev pub tail_offset : Layout → FileName → List ℕ → ℕ → ℕ
+tail_offset s name bytes len = moved_by ((length bytes - len) - header_len s) (offset_of name)
+
+-- how a file ends: a torn tail that was synced at least in part is damage
+abbrev pub told_ending : Layout → Option (List ℕ) → FileName → List ℕ → FileEnding → FileEnding
+told_ending s key name bytes End = End
+told_ending s key name bytes (Torn len) =
+    if is_synced_tail key (tail_offset s name bytes len) len bytes then Damaged (length bytes - len) else Torn len
+told_ending s key name bytes (Damaged at) = Damaged at
+told_ending s key name bytes (Refused fault) = Refused fault

@@ -42,6 +42,7 @@ impl<T: Drop> From<AllocFailed<T>> for DirectoryFault {
 /// Contracts see it as the names and the bytes of its files, where these are known.
 pub trait Directory {
     ghost use Rattle.std.specs.Prelude.{◌≡◌, ℕ, List, Option, Some, IfOk, IfSome, length};
+    ghost use Rattle.rr_directory.specs.Tail.{tail_of};
     ghost use Rattle.rr_directory.specs.declared.name.FileName.{FileName};
 
     /// What a file is read from.
@@ -63,4 +64,9 @@ pub trait Directory {
     /// How many bytes a file has.
     fn len(&self, alloc: Global, name: FileName) -> Result<u64, DirectoryFault>
         ensures { IfOk result (λ len. IfSome (bytes self.now) (λ of. len ≡ length (of name))) };
+
+    /// The last `len` bytes of a file, or all if it has fewer.
+    fn tail(&self, alloc: Global, name: FileName, len: u64) -> Result<Vec<u8>, DirectoryFault>
+        ensures { IfOk result (λ tail. IfSome (bytes self.now) (λ of.
+            tail.items ≡ tail_of len (of name))) };
 }

@@ -39,6 +39,7 @@ mod report;
 mod schema;
 mod start;
 mod surveying;
+mod tail;
 
 pub use cells::push_cell;
 pub use directory::{Directory, DirectoryFault};

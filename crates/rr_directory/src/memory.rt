@@ -103,4 +103,12 @@ impl<'a> Directory for MemoryDirectory<'a> {
             None => Err(DirectoryFault::ReadFailed),
         }
     }
+
+    fn tail(&self, alloc: Global, name: FileName, len: u64) -> Result<Vec<u8>, DirectoryFault> {
+        let Some(file) = file_named(self.files, name) else {
+            return Err(DirectoryFault::ReadFailed);
+        };
+        let begin = file.bytes.len().saturating_sub(len as usize);
+        Ok(Vec::from_slice(alloc, &file.bytes[begin..])?)
+    }
 }

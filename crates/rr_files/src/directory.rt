@@ -4,8 +4,9 @@ use crate::fault::OpenFault;
 use crate::folder::{BESIDE, beside_path, file_path, give_name, name_before, sync_folder};
 use crate::journal_file::JournalFile;
 use crate::lock::TryLock;
+use crate::tail::tail_of;
 use rr_directory::{Directory, DirectoryFault, FileName};
-use rr_journal::{Cursor, header_bytes};
+use rr_journal::{Cursor, Key, header_bytes};
 use rr_schema::Schema;
 use std::alloc::Global;
 use std::fs::{OpenFile, OpenOptions};
@@ -133,7 +134,8 @@ impl<'a, R: Files> DataDirectory<'a, R> {
         self.path
     }
 
-    /// A new journal file that begins at a place, with its header. No file of this name may exist.
+    /// A new journal file that begins at a place, with its header, and this key of its witnesses. No file
+    /// of this name may exist.
     ///
     /// It is written beside and synced, then gets its name, and the folder is synced. So a crash
     /// leaves no file with part of a header, and afterwards whatever is synced in the file is found
@@ -143,6 +145,7 @@ impl<'a, R: Files> DataDirectory<'a, R> {
         alloc: Global,
         begins: &Cursor,
         schema: &Schema,
+        key: Key,
     ) -> io::Result<JournalFile<R::File>> {
         let name = FileName::Journal(begins.offset);
         let path = file_path(alloc, self.path, name)?;
@@ -155,11 +158,11 @@ impl<'a, R: Files> DataDirectory<'a, R> {
         file.write_all(&header)?;
         file.sync_all()?;
         give_name(self.rt, alloc, self.path, name)?;
-        Ok(JournalFile::new(file, header.len() as u64))
+        Ok(JournalFile::new(file, header.len() as u64, key))
     }
 
-    /// The last file of the journal, to go on after what was read of it: its last `torn` bytes,
-    /// which are a torn tail, are cut off, and the rest is synced.
+    /// The last file of the journal, to go on after what was read of it, with this key of its witnesses:
+    /// its last `torn` bytes, which are a torn tail, are cut off, and the rest is synced.
     ///
     /// It is synced even if nothing is torn: a killed process may leave bytes that have been read
     /// since and that only the system's memory has.
@@ -168,6 +171,7 @@ impl<'a, R: Files> DataDirectory<'a, R> {
         alloc: Global,
         name: FileName,
         torn: u64,
+        key: Key,
     ) -> io::Result<JournalFile<R::File>> {
         let path = file_path(alloc, self.path, name)?;
         let mut file = OpenOptions::new()
@@ -178,7 +182,7 @@ impl<'a, R: Files> DataDirectory<'a, R> {
         file.set_len(len)?;
         file.sync_all()?;
         file.seek(SeekFrom::Start(len))?;
-        Ok(JournalFile::new(file, len))
+        Ok(JournalFile::new(file, len, key))
     }
 
     /// A writer for a checkpoint, after which the journal is read from an offset on. It is written
@@ -256,6 +260,14 @@ impl<'a, R: Files> Directory for DataDirectory<'a, R> {
         let path = file_path(alloc, self.path, name)?;
         match fs::metadata(self.rt, path.as_str()) {
             Ok(found) => Ok(found.len()),
+            Err(error) => Err(read_fault(&error)),
+        }
+    }
+
+    fn tail(&self, alloc: Global, name: FileName, len: u64) -> Result<Vec<u8>, DirectoryFault> {
+        let path = file_path(alloc, self.path, name)?;
+        match tail_of(self.rt, alloc, path.as_str(), len) {
+            Ok(tail) => Ok(tail),
             Err(error) => Err(read_fault(&error)),
         }
     }

@@ -1,6 +1,6 @@
 //! The last file of a journal, to which a node appends.
 
-use rr_journal::{Journal, JournalFailed};
+use rr_journal::{Journal, JournalFailed, Key};
 use std::fs::OpenFile;
 use std::io;
 use std::io::{Seek, SeekFrom, Write};
@@ -34,17 +34,20 @@ pub struct JournalFile<F> {
     state: State,
     /// Whether it has no name any more.
     is_lost: bool,
+    /// The key of its witnesses.
+    key: Key,
 }
 
 impl<F: Write + Seek + OpenFile> JournalFile<F> {
-    /// A file of this many bytes, all of them synced, to be appended to.
-    pub(crate) fn new(file: F, len: u64) -> JournalFile<F> {
+    /// A file of this many bytes, all of them synced, to be appended to, with this key of its witnesses.
+    pub(crate) fn new(file: F, len: u64, key: Key) -> JournalFile<F> {
         JournalFile {
             file,
             len,
             synced: len,
             state: State::Whole,
             is_lost: false,
+            key,
         }
     }
 
@@ -102,6 +105,12 @@ impl<F: Write + Seek + OpenFile> Journal for JournalFile<F> {
     ghost text = { λ j. None };
 
     ghost synced = { λ j. None };
+
+    ghost key = { λ j. j.key.bytes };
+
+    fn key(&self) -> Key {
+        self.key
+    }
 
     fn append(&mut self, piece: &[u8]) -> Result<(), JournalFailed> {
         if self.is_lost || self.state != State::Whole {

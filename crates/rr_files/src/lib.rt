@@ -1,8 +1,9 @@
 //! The files of a node's data directory, as a running node writes them.
 //!
-//! A directory has `lock`, journal files and checkpoints, each with an offset of the journal in its
-//! name ([`rr_directory::FileName`]), an empty file for each origin that was taken, and beside them,
-//! while one is written, a file of the same name ending in `.new`. A [`DirectoryLock`] keeps other processes out. A [`DataDirectory`] is
+//! A directory has `lock`, the `key` of its journal's witnesses, journal files and checkpoints, each
+//! with an offset of the journal in its name ([`rr_directory::FileName`]), an empty file for each
+//! origin that was taken, and beside them, while one is written, a file of the same name ending in
+//! `.new`. A [`DirectoryLock`] keeps other processes out. A [`DataDirectory`] is
 //! what [`rr_directory::recover`] reads, and makes and removes files; a [`JournalFile`] is what a
 //! node commits to.
 //!
@@ -26,10 +27,14 @@ mod directory;
 mod fault;
 mod folder;
 mod journal_file;
+mod key;
 mod lock;
 mod origins;
+mod tail;
 
 pub use directory::{DataDirectory, DirectoryLock};
 pub use fault::OpenFault;
 pub use journal_file::JournalFile;
+pub use key::key_in;
 pub use lock::TryLock;
+pub use tail::tail_of;

@@ -19,7 +19,7 @@ use Rattle.rr_codec.specs.Reading.{checked_count}
 use Rattle.rr_journal.specs.declared.cursor.Cursor.{Cursor}
 use Rattle.rr_journal.specs.declared.fault.JournalFault.TheVariants.{BadKey, BadArchive, BadOrigin}
 use Rattle.rr_journal.specs.declared.raw.TheConstants.{FIRST}
-use Rattle.rr_journal.specs.Body.{PackedCells, Meaning, HasCells, HasOrigin, HasJoined, HasEnded, IsGroup, IsMeaning, group_text, body_text, kind_of, as_packed, alone, key_at, archive_at, packed_at, group_at, groups_of, origin_of, cursor_of, count_of, meaning_at}
+use Rattle.rr_journal.specs.Body.{PackedCells, Meaning, HasCells, HasOrigin, HasJoined, HasEnded, HasWitness, IsGroup, IsMeaning, group_text, body_text, kind_of, as_packed, alone, key_at, archive_at, packed_at, group_at, groups_of, origin_of, cursor_of, count_of, witness_of, meaning_at}
 use Rattle.rr_journal.specs.Cursor.{IsCursor, cursor_text}
 use Rattle.rr_journal.specs.Fields.{prefix_at}
 use Rattle.rr_journal.specs.Laws.{BodiesAreRead}
@@ -133,6 +133,10 @@ count_again : (count : ℕ) → count < 2 ^ 64 → count_of (to_be_bytes w64 cou
 count_again count fits =
     ap count_of (sym (append-nil (to_be_bytes w64 count))) ∙ step alone (number64_again count [] fits)
 
+witness_alone : (witness : List ℕ) → length witness ≡ 8 → witness_of witness ≡ Ok witness
+witness_alone witness len =
+    ap witness_of (sym (append-nil witness)) ∙ step alone (prefix_again 8 witness [] len)
+
 meaning_again : (s : Layout) (m : Meaning) → IsMeaning s m → meaning_at s (kind_of m) (body_text m) ≡ Ok m
 unfolding meaning_at body_text
 meaning_again s (HasCells groups) is =
@@ -141,6 +145,7 @@ meaning_again s (HasOrigin origin) is =
     step (λ (x : ℕ). Ok (HasOrigin x)) (origin_again origin is.at_least (omega (arith, is.at_most)))
 meaning_again s (HasJoined cursor) is = step (λ (x : Cursor). Ok (HasJoined x)) (cursor_alone cursor is)
 meaning_again s (HasEnded count) is = step (λ (x : ℕ). Ok (HasEnded x)) (count_again count is)
+meaning_again s (HasWitness witness) is = step (λ (x : List ℕ). Ok (HasWitness x)) (witness_alone witness is)
 
 -- the highest bit of a kind is no part of it
 kind_again : (m : Meaning) → (kind_of m % FIRST ≡ kind_of m) × ((kind_of m % FIRST + FIRST) % FIRST ≡ kind_of m)
@@ -148,6 +153,7 @@ kind_again (HasCells groups) = (refl, refl)
 kind_again (HasOrigin origin) = (refl, refl)
 kind_again (HasJoined cursor) = (refl, refl)
 kind_again (HasEnded count) = (refl, refl)
+kind_again (HasWitness witness) = (refl, refl)
 
 pub bodies_are_read : BodiesAreRead
 bodies_are_read s m is = (

@@ -27,11 +27,11 @@ same_bytes a = ap not ((bytes_decides a a).1 refl)
 same_number : (a : ℕ) → not (a == a) ≡ false
 same_number a = ap not (eq-eqb a a refl)
 
-start_again : (rest : List ℕ) → start_at (magic ++ (1 ∷ (0 ∷ rest))) ≡ Ok rest
+start_again : (rest : List ℕ) → start_at (magic ++ (2 ∷ (0 ∷ rest))) ≡ Ok rest
 unfolding start_at
 start_again rest =
-    step _ (prefix_again 4 magic (1 ∷ (0 ∷ rest)) refl)
-    ∙ step _ (byte_again 1 (0 ∷ rest) (omega arith))
+    step _ (prefix_again 4 magic (2 ∷ (0 ∷ rest)) refl)
+    ∙ step _ (byte_again 2 (0 ∷ rest) (omega arith))
     ∙ step _ (byte_again 0 rest (omega arith))
 
 schema_again : (s : Layout) (rest : List ℕ) → IsLayout s
@@ -65,11 +65,11 @@ undigested_is s c is = omega (
 )
 
 regrouped : (n s c d x : List ℕ)
-    → ((magic ++ (1 ∷ (0 ∷ (n ++ (s ++ c))))) ++ d) ++ x ≡ magic ++ (1 ∷ (0 ∷ (n ++ (s ++ (c ++ (d ++ x))))))
+    → ((magic ++ (2 ∷ (0 ∷ (n ++ (s ++ c))))) ++ d) ++ x ≡ magic ++ (2 ∷ (0 ∷ (n ++ (s ++ (c ++ (d ++ x))))))
 regrouped n s c d x = simp append_assoc
 
 parted : (s : Layout) (c : Cursor) (more : List ℕ) → header_text s c ++ more
-    ≡ magic ++ (1 ∷ (0 ∷ (to_be_bytes w16 (length (schema_bytes s)) ++ (schema_bytes s ++ (cursor_text c ++
+    ≡ magic ++ (2 ∷ (0 ∷ (to_be_bytes w16 (length (schema_bytes s)) ++ (schema_bytes s ++ (cursor_text c ++
     (cut_digest (undigested_header s c) ++ more))))))
 unfolding header_text undigested_header
 parted s c more = regrouped (to_be_bytes w16 (length (schema_bytes s))) (schema_bytes s) (cursor_text c)
@@ -82,7 +82,7 @@ headers_are_read s c more is at =
     let all = header_text s c ++ more in
     let behind = digest ++ more in
     let place = cursor_text c ++ behind in
-    let parts : all ≡ magic ++ (1 ∷ (0 ∷ (to_be_bytes w16 (length (schema_bytes s)) ++ (schema_bytes s ++ place)))) =
+    let parts : all ≡ magic ++ (2 ∷ (0 ∷ (to_be_bytes w16 (length (schema_bytes s)) ++ (schema_bytes s ++ place)))) =
     parted s c more in
     let digested : take (undigested_len s) all ≡ undigested_header s c =
     ap (take (undigested_len s)) (append_assoc (undigested_header s c) digest more)

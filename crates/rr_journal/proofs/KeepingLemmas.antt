@@ -1,9 +1,8 @@
 -- Records that are appended to a journal.
-use Rattle.std.proofs.Common.{◌≡◌, ℕ, List, [], ◌∷◌, ◌++◌, Option, None, Some, refl, sym, ap, ◌∙◌, append_assoc, append-nil, map, length, Result, Ok, Err, OnOk, arith}
+use Rattle.std.proofs.Common.{◌≡◌, ℕ, List, [], ◌∷◌, ◌++◌, Option, None, Some, refl, sym, ap, ◌∙◌, append_assoc, append-nil, Result, Ok, Err, OnOk}
 use Rattle.std.specs.Io.KnownBytes.{append_known}
-use Rattle.rr_journal.specs.declared.raw.RawRecord.{RawRecord}
 use Rattle.rr_journal.specs.Digest.{undigested_text, link}
-use Rattle.rr_journal.specs.Text.{Raw, raw_of, after, record_text, records_text, chain, as_first, batch_of}
+use Rattle.rr_journal.specs.Text.{Raw, after, record_text, records_text, chain}
 
 pub append_none : (k : Option (List ℕ)) → append_known k [] ≡ k
 append_none None = refl
@@ -54,20 +53,12 @@ map_ok (Err e) h f = tt
 
 -- ---- the records between two syncs
 
-pub no_batch : (k : Option (List ℕ)) (digest : List ℕ) (rs : List RawRecord) → length rs ≡ 0
-    → k ≡ append_known k (records_text digest (batch_of (map raw_of rs)))
-unfolding records_text
-no_batch k digest [] none = sym (append_none k)
-no_batch k digest (r ∷ rs) none = absurd (omega (arith, none))
-
-module _ (k one all : Option (List ℕ)) (digest next : List ℕ) (first : RawRecord) (others rs : List RawRecord)
-    (is : rs ≡ first ∷ others) (moved : next ≡ after digest (as_first (raw_of first))) where
-  pub batch_text : one ≡ append_known k (record_text digest (as_first (raw_of first)))
-      → all ≡ append_known one (records_text next (map raw_of others))
-      → all ≡ append_known k (records_text digest (batch_of (map raw_of rs)))
+-- a witness, and then the records
+module _ (k one all : Option (List ℕ)) (digest next : List ℕ) (witness : Raw) (rs : List Raw)
+    (moved : next ≡ after digest witness) where
+  pub batch_text : one ≡ append_known k (record_text digest witness) → all ≡ append_known one (records_text next rs)
+      → all ≡ append_known k (records_text digest (witness ∷ rs))
   unfolding records_text
   batch_text p q =
-      let d = as_first (raw_of first) in
-      q ∙ (λ i. append_known (p i) (records_text (moved i) (map raw_of others)))
-      ∙ append_twice k (record_text digest d) (records_text (after digest d) (map raw_of others))
-      ∙ ap (λ (l : List RawRecord). append_known k (records_text digest (batch_of (map raw_of l)))) (sym is)
+      q ∙ (λ i. append_known (p i) (records_text (moved i) rs))
+      ∙ append_twice k (record_text digest witness) (records_text (after digest witness) rs)

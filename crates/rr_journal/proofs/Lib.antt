@@ -11,3 +11,4 @@ pub mod HeaderLemmas
 pub mod GroupLemmas
 pub mod BodyLemmas
 pub mod HistoryLemmas
+pub mod WitnessLemmas

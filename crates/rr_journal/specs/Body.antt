@@ -16,7 +16,8 @@ use Rattle.rr_journal.specs.declared.cursor.Cursor.{Cursor}
 use Rattle.rr_journal.specs.declared.group.Group.{Group}
 use Rattle.rr_journal.specs.declared.meaning.Record.{Record}
 use Rattle.rr_journal.specs.declared.meaning.Record.TheVariants as code
-use Rattle.rr_journal.specs.declared.kind.TheConstants.{CELLS, ORIGIN, CURSOR, END}
+use Rattle.rr_journal.specs.declared.digest.TheConstants.{DIGEST_LEN}
+use Rattle.rr_journal.specs.declared.kind.TheConstants.{CELLS, ORIGIN, CURSOR, END, WITNESS}
 use Rattle.rr_journal.specs.declared.raw.TheConstants.{MAX_BODY_LEN, FIRST}
 use Rattle.rr_journal.specs.Cursor.{IsCursor, cursor_text}
 use Rattle.rr_journal.specs.Fields.{prefix_at, number_at, cursor_at}
@@ -31,19 +32,21 @@ pub record PackedCells : Type 0 where
 abbrev pub packed_cells : Group → PackedCells
 packed_cells g = record { key = g.key; archive = g.archive; bytes = g.packed.items }
 
--- what a record means: cells; the origin of samples from here on; how far another journal was joined; or the end of a
--- checkpoint with this many cells
+-- what a record means: cells; the origin of samples from here on; how far another journal was joined; the end of a
+-- checkpoint with this many cells; or a witness
 pub data Meaning : Type 0 where
   HasCells : List PackedCells → Meaning
   HasOrigin : ℕ → Meaning
   HasJoined : Cursor → Meaning
   HasEnded : ℕ → Meaning
+  HasWitness : List ℕ → Meaning
 
 abbrev pub meaning_of : Record → Meaning
 meaning_of (code.Cells groups) = HasCells (map packed_cells groups.items)
 meaning_of (code.Origin origin) = HasOrigin origin
 meaning_of (code.Cursor cursor) = HasJoined cursor
 meaning_of (code.End count) = HasEnded count
+meaning_of (code.Witness witness) = HasWitness witness
 
 -- ---- its text
 
@@ -57,12 +60,14 @@ kind_of (HasCells groups) = CELLS
 kind_of (HasOrigin origin) = ORIGIN
 kind_of (HasJoined cursor) = CURSOR
 kind_of (HasEnded count) = END
+kind_of (HasWitness witness) = WITNESS
 
 unfoldable pub body_text : Meaning → List ℕ
 body_text (HasCells groups) = flat_map group_text groups
 body_text (HasOrigin origin) = to_be_bytes w16 origin
 body_text (HasJoined cursor) = cursor_text cursor
 body_text (HasEnded count) = to_be_bytes w64 count
+body_text (HasWitness witness) = witness
 
 -- why a record with this body isn't written: memory runs out, or the body is too long
 abbrev pub IsEncodeFault : List ℕ → JournalFault → Type 0
@@ -135,6 +140,10 @@ cursor_of bytes = cursor_at bytes >>= alone
 abbrev pub count_of : List ℕ → Result ℕ JournalFault
 count_of bytes = number_at w64 bytes >>= alone
 
+-- a witness
+abbrev pub witness_of : List ℕ → Result (List ℕ) JournalFault
+witness_of bytes = prefix_at DIGEST_LEN bytes >>= alone
+
 -- what a kind and a body mean
 unfoldable pub meaning_at : Layout → ℕ → List ℕ → Result Meaning JournalFault
 meaning_at s kind body =
@@ -142,7 +151,8 @@ meaning_at s kind body =
     else (if kind == ORIGIN then (origin_of body >>= λ origin. Ok (HasOrigin origin))
     else (if kind == CURSOR then (cursor_of body >>= λ cursor. Ok (HasJoined cursor))
     else (if kind == END then (count_of body >>= λ count. Ok (HasEnded count))
-    else Err BadKind)))
+    else (if kind == WITNESS then (witness_of body >>= λ witness. Ok (HasWitness witness))
+    else Err BadKind))))
 
 -- what a record means, whether or not it is the first one after a sync
 abbrev pub record_meaning : Layout → Raw → Result Meaning JournalFault
@@ -163,3 +173,4 @@ IsMeaning s (HasCells groups) = (1 ≤ length groups) × AllByRecursion (IsGroup
 IsMeaning s (HasOrigin origin) = IsOrigin origin
 IsMeaning s (HasJoined cursor) = IsCursor cursor
 IsMeaning s (HasEnded count) = count < 2 ^ 64
+IsMeaning s (HasWitness witness) = length witness ≡ DIGEST_LEN

@@ -1,5 +1,5 @@
 -- What stands before the records in a file of a journal.
-use Rattle.std.specs.Prelude.{◌≡◌, ℕ, ◌+◌, not, nat_eq, ◌==◌, List, ◌∷◌, ◌++◌, length, take, drop, codes, Option, Some, IfSome, Result, Ok, Err, ◌⊎◌}
+use Rattle.std.specs.Prelude.{◌≡◌, ℕ, ◌+◌, not, ◌||◌, nat_eq, ◌==◌, List, ◌∷◌, ◌++◌, length, take, drop, codes, Option, Some, IfSome, Result, Ok, Err, ◌⊎◌}
 use Rattle.std.specs.Cmp.Lexicographic.{pointwise}
 use Rattle.std.specs.Int.{w8, w16, to_be_bytes}
 use Rattle.rr_text.specs.Results.{◌>>=◌, unless}
@@ -21,7 +21,7 @@ magic = codes "RRJN"
 -- these, the version and the number of decimals in one byte each, the length of the schema in two and the schema, and
 -- the place in the journal at which the file begins
 unfoldable pub undigested_header : Layout → Cursor → List ℕ
-undigested_header s c = magic ++ (1 ∷ (DECIMALS ∷ (to_be_bytes w16 (length (schema_bytes s)) ++ (schema_bytes s ++
+undigested_header s c = magic ++ (2 ∷ (DECIMALS ∷ (to_be_bytes w16 (length (schema_bytes s)) ++ (schema_bytes s ++
     cursor_text c))))
 
 -- and a digest of all of this
@@ -38,12 +38,12 @@ header_len s = undigested_len s + DIGEST_LEN
 
 -- ---- its reading, field by field, up to the first fault
 
--- the magic, and what follows the version and the decimals
+-- the magic, and what follows the version, 1 or 2, and the decimals
 unfoldable pub start_at : List ℕ → Result (List ℕ) JournalFault
 start_at bytes = do
   start ← prefix_at (length magic) bytes
   version ← unless BadMagic (not (pointwise nat_eq start.0 magic)) (number_at w8 start.1)
-  decimals ← unless BadVersion (not (version.0 == 1)) (number_at w8 version.1)
+  decimals ← unless BadVersion (not ((version.0 == 2) || (version.0 == 1))) (number_at w8 version.1)
   unless BadDecimals (not (decimals.0 == DECIMALS)) (Ok decimals.1)
 
 -- what follows a schema and its length

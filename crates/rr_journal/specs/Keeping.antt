@@ -7,10 +7,11 @@ use Rattle.rr_journal.specs.declared.cursor.Cursor.{Cursor}
 use Rattle.rr_journal.specs.Cursor.{behind_all}
 use Rattle.rr_journal.specs.Text.{Raw, records_text}
 
--- a journal over memory: its bytes, and how many of them, from the beginning on, are synced
+-- a journal over memory: its bytes, how many of them, from the beginning on, are synced, and the key of its witnesses
 pub record MemoryState : Type 0 where
   pub bytes : List ℕ
   pub synced : ℕ
+  pub key : List ℕ
 
 -- the bytes that a crash leaves, whatever stands behind them
 abbrev pub synced_bytes : MemoryState → List ℕ

@@ -1,5 +1,5 @@
 -- The laws of the texts of journals.
-use Rattle.std.specs.Prelude.{◌≡◌, ◌≢◌, ◌↔◌, ◌⊎◌, ℕ, ◌<◌, ◌^◌, ◌≤◌, List, [], ◌∷◌, ◌++◌, length, take, None, MatchOption, Ok, All}
+use Rattle.std.specs.Prelude.{◌≡◌, ◌≢◌, ◌↔◌, ◌⊎◌, ℕ, ◌+◌, ◌<◌, ◌^◌, ◌≤◌, true, List, [], ◌∷◌, ◌++◌, length, take, None, MatchOption, Ok, All}
 use Rattle.rr_schema.specs.Schema.{Layout, IsLayout}
 use Rattle.rr_journal.specs.declared.cursor.Cursor.{Cursor}
 use Rattle.rr_journal.specs.declared.digest.TheConstants.{DIGEST_LEN}
@@ -8,8 +8,9 @@ use Rattle.rr_journal.specs.Body.{Meaning, IsMeaning, raw_text, record_meaning}
 use Rattle.rr_journal.specs.Cursor.{IsCursor}
 use Rattle.rr_journal.specs.Digest.{cut_digest}
 use Rattle.rr_journal.specs.Header.{header_at, header_text}
+use Rattle.rr_journal.specs.Witness.{witness_record, was_synced}
 use Rattle.rr_journal.specs.Reading.{IsDamage, followed_by, record_at, records_of, stop_before, stop_of}
-use Rattle.rr_journal.specs.Text.{Raw, AllFit, after, as_first, chain, records_text, whole_within}
+use Rattle.rr_journal.specs.Text.{Raw, AllFit, after, as_first, chain, record_text, records_text, whole_within}
 
 -- each of these numbers is a byte
 abbrev pub AreBytes : List ℕ → Type 0
@@ -70,6 +71,13 @@ CommittedIsRead =
     × ((records_of before ((records_text before rs ++ records_text (chain before rs) added) ++ tail)).0
     ≡ (rs ++ added) ++ later))
     × ¬ IsDamage (stop_of before ((records_text before rs ++ records_text (chain before rs) added) ++ tail))
+
+-- a witness that was written is found among bytes that aren't read, wherever it stands behind the first of them: so whatever
+-- became of what was synced before it, that is told from a torn tail
+abbrev pub WitnessesAreFound : Type 0
+WitnessesAreFound =
+    (key : List ℕ) (offset : ℕ) (bad before rest : List ℕ) → 1 ≤ length bad → offset + length bad < 2 ^ 64
+    → was_synced key offset (bad ++ (record_text before (witness_record key (offset + length bad)) ++ rest)) ≡ true
 
 -- two texts with the same cut digest
 pub record Collision : Type 0 where

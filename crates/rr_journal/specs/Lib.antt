@@ -7,6 +7,7 @@ pub mod Reading
 pub mod Stream
 pub mod Header
 pub mod Body
+pub mod Witness
 pub mod Groups
 pub mod Keeping
 pub mod Laws

@@ -59,8 +59,3 @@ whole_within n (r ∷ rs) = if nat_le (record_len r) n then r ∷ whole_within (
 -- a record as the first one after a sync
 abbrev pub as_first : Raw → Raw
 as_first r = record { kind = r.kind % FIRST + FIRST; body = r.body }
-
--- the records that are written between two syncs
-abbrev pub batch_of : List Raw → List Raw
-batch_of [] = []
-batch_of (r ∷ rs) = as_first r ∷ rs

@@ -1,14 +1,15 @@
 //! What records mean, from their bytes.
 ghost use Rattle.rr_text.specs.Results.{GivesUnless, NeedsMemoryAfter};
-ghost use Rattle.rr_journal.specs.Body.{alone, count_of, cursor_of, meaning_of, origin_of, record_meaning};
+ghost use Rattle.rr_journal.specs.Body.{alone, count_of, cursor_of, witness_of, meaning_of, origin_of, record_meaning};
 ghost use Rattle.rr_journal.specs.Fault.{Finds};
 ghost use Rattle.rr_journal.specs.Text.{raw_of};
 
 use crate::cursor::Cursor;
+use crate::digest::DIGEST_LEN;
 use crate::fault::JournalFault;
-use crate::fields::{cursor_at, u16_at, u64_at};
+use crate::fields::{array_at, cursor_at, u16_at, u64_at};
 use crate::grouping::groups_of;
-use crate::kind::{CELLS, CURSOR, END, ORIGIN};
+use crate::kind::{CELLS, CURSOR, END, ORIGIN, WITNESS};
 use crate::meaning::Record;
 use crate::raw::{FIRST, RawRecord};
 use rr_schema::{Origin, Schema};
@@ -54,6 +55,15 @@ fn count_of(body: &[u8]) -> Result<u64, JournalFault>
     Ok(count)
 }
 
+/// The witness that a body holds.
+fn witness_of(body: &[u8]) -> Result<[u8; DIGEST_LEN], JournalFault>
+    ensures { Finds (λ x. x) result (witness_of body.now) }
+{
+    let (witness, rest) = array_at(body)?;
+    no_more(rest)?;
+    Ok(witness)
+}
+
 /// What a record means. One from elsewhere is checked: the cells taken are of the schema, valid in
 /// their slots and ascending in each group.
 ///
@@ -85,6 +95,10 @@ pub fn decode(alloc: Global, raw: &RawRecord, schema: &Schema) -> Result<Record,
         END => {
             let count = count_of(&raw.body)?;
             Ok(Record::End(count))
+        }
+        WITNESS => {
+            let witness = witness_of(&raw.body)?;
+            Ok(Record::Witness(witness))
         }
         _ => Err(JournalFault::BadKind),
     }

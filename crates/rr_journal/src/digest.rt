@@ -10,7 +10,7 @@ pub const DIGEST_LEN: usize = 8;
 const _: () = prove!(DIGEST_LEN == 8);
 
 /// The first bytes of a SHA-256 digest.
-fn cut(digest: &[u8; 32]) -> [u8; DIGEST_LEN]
+pub(crate) fn cut(digest: &[u8; 32]) -> [u8; DIGEST_LEN]
     ensures { result ≡ take DIGEST_LEN digest.now }
 {
     match digest.first_chunk() {

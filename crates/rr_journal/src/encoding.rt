@@ -8,7 +8,7 @@ ghost use Rattle.rr_journal.specs.Text.{raw_of};
 use crate::cursor::Cursor;
 use crate::fault::JournalFault;
 use crate::group::Group;
-use crate::kind::{CELLS, CURSOR, END, ORIGIN};
+use crate::kind::{CELLS, CURSOR, END, ORIGIN, WITNESS};
 use crate::meaning::Record;
 use crate::raw::{MAX_BODY_LEN, RawRecord};
 use std::alloc::{AllocError, Global};
@@ -66,6 +66,7 @@ fn kind_of(meaning: &Record) -> u8
         Record::Origin(_) => ORIGIN,
         Record::Cursor(_) => CURSOR,
         Record::End(_) => END,
+        Record::Witness(_) => WITNESS,
     }
 }
 
@@ -80,6 +81,7 @@ fn body_bytes(alloc: Global, meaning: &Record) -> Result<Vec<u8>, JournalFault>
         Record::Origin(origin) => Ok(Vec::from_slice(alloc, &origin.get().to_be_bytes())?),
         Record::Cursor(cursor) => Ok(cursor_bytes(alloc, cursor)?),
         Record::End(count) => Ok(Vec::from_slice(alloc, &count.to_be_bytes())?),
+        Record::Witness(witness) => Ok(Vec::from_slice(alloc, witness)?),
     }
 }
 

@@ -17,7 +17,7 @@ pub(crate) fn bytes_at(bytes: &[u8], len: usize) -> Result<(&[u8], &[u8]), Journ
 }
 
 /// As many bytes as the array holds, and what follows them.
-fn array_at<const N: usize>(bytes: &[u8]) -> Result<([u8; N], &[u8]), JournalFault>
+pub(crate) fn array_at<const N: usize>(bytes: &[u8]) -> Result<([u8; N], &[u8]), JournalFault>
     ensures { Finds (λ x. (x.0, x.1.now)) result (prefix_at N bytes.now) }
 {
     match bytes.split_first_chunk() {

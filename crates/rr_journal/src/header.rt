@@ -19,8 +19,11 @@ use std::io::Read;
 /// The bytes that every file of a journal begins with.
 const MAGIC: [u8; 4] = *b"RRJN";
 
-/// The version.
-const VERSION: u8 = 1;
+/// The version that is written: batches begin with a witness.
+const VERSION: u8 = 2;
+
+/// The first version, which is read too: it has no witnesses.
+const FIRST_VERSION: u8 = 1;
 
 /// How many decimals the values of cells have.
 pub const DECIMALS: u8 = 0;
@@ -28,7 +31,9 @@ pub const DECIMALS: u8 = 0;
 /// How many bytes a header has besides its schema and its digest.
 const BESIDES_LEN: usize = 40;
 
-const _: () = prove!(VERSION == 1);
+const _: () = prove!(VERSION == 2);
+
+const _: () = prove!(FIRST_VERSION == 1);
 
 const _: () = prove!(DECIMALS == 0);
 
@@ -73,7 +78,7 @@ fn after_start(bytes: &[u8]) -> Result<&[u8], JournalFault>
         return Err(JournalFault::BadMagic);
     }
     let (version, rest) = u8_at(rest)?;
-    if version != VERSION {
+    if version != VERSION && version != FIRST_VERSION {
         return Err(JournalFault::BadVersion);
     }
     let (decimals, rest) = u8_at(rest)?;

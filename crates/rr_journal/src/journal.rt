@@ -1,5 +1,6 @@
 //! The trait through which a node writes a journal.
 
+use crate::witness::Key;
 use thiserror::Error;
 
 /// A call of a journal failed.
@@ -10,7 +11,7 @@ pub struct JournalFailed;
 /// Where a node writes records, so that they survive a crash.
 ///
 /// Contracts see it as its text (the bytes written) and the part of it that is synced, where these
-/// are known. A crash leaves what is synced, followed by anything at all.
+/// are known, and the key of its witnesses. A crash leaves what is synced, followed by anything at all.
 pub trait Journal {
     ghost use Rattle.std.specs.Prelude.{◌≡◌, ℕ, List, OnOk, Option};
     ghost use Rattle.std.specs.Io.KnownBytes.{append_known};
@@ -19,6 +20,12 @@ pub trait Journal {
     ghost text: { Self → Option (List ℕ) };
 
     ghost synced: { Self → Option (List ℕ) };
+
+    ghost key: { Self → List ℕ };
+
+    /// The key of its witnesses.
+    fn key(&self) -> Key
+        ensures { result.bytes ≡ key self.now };
 
     /// Appends a piece. If that fails, some of it may be written.
     fn append(&mut self, piece: &[u8]) -> Result<(), JournalFailed>

@@ -12,6 +12,9 @@ pub(crate) const CURSOR: u8 = 3;
 /// The end of a checkpoint.
 pub(crate) const END: u8 = 4;
 
+/// A witness: what comes before it was synced when it was written.
+pub(crate) const WITNESS: u8 = 5;
+
 const _: () = prove!(CELLS == 1);
 
 const _: () = prove!(ORIGIN == 2);
@@ -19,3 +22,5 @@ const _: () = prove!(ORIGIN == 2);
 const _: () = prove!(CURSOR == 3);
 
 const _: () = prove!(END == 4);
+
+const _: () = prove!(WITNESS == 5);

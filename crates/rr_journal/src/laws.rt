@@ -1,5 +1,5 @@
 //! The laws of the texts of journals: functions with empty bodies, whose contracts state them.
-ghost use Rattle.rr_journal.specs.Laws.{BodiesAreRead, CommittedIsRead, DigestsTellHistories, HeadersAreRead, PrefixesAreRead, RecordsAreReadInTurn, RecordsAreTheirText, RecordsGoOn, SyncedIsRead, TextsAreRead, TextsGoOn};
+ghost use Rattle.rr_journal.specs.Laws.{BodiesAreRead, CommittedIsRead, DigestsTellHistories, HeadersAreRead, WitnessesAreFound, PrefixesAreRead, RecordsAreReadInTurn, RecordsAreTheirText, RecordsGoOn, SyncedIsRead, TextsAreRead, TextsGoOn};
 
 /// Bytes are read as records exactly if they are the text of these, each chained to the one before,
 /// up to where none is whole.
@@ -30,6 +30,11 @@ pub fn prefixes_are_read()
 pub fn synced_is_read()
     ensures synced { SyncedIsRead }
     ensures committed { CommittedIsRead }
+{}
+
+/// A witness is found behind bytes that aren't read, as [`was_synced`](crate::was_synced) looks for it.
+pub fn witnesses_are_found()
+    ensures { WitnessesAreFound }
 {}
 
 /// A header that was written is read.

@@ -9,6 +9,7 @@
 //! kind 2   origin: u16
 //! kind 3   cursor: id [16], offset u64, digest [8]
 //! kind 4   end of a checkpoint: how many cells it has, u64
+//! kind 5   witness: [8], of the offset at which it stands, under the directory's key
 //! kind +128  the record is the first after a sync
 //! ```
 //!
@@ -17,7 +18,8 @@
 //! before it, and its own length, kind and body. A header names its place in the journal, a
 //! [`Cursor`]: the journal's id, how many bytes of records come before the file, and the digest of
 //! the last of them, to which the first record chains. So a record that is lost, repeated, swapped
-//! or changed is detected, across files too.
+//! or changed is detected, across files too. What is written between two syncs begins with a witness,
+//! by which whoever has the key sees that what comes before it was synced ([`was_synced`]).
 //!
 //! [`encode`] turns a [`Record`] into a [`RawRecord`], and [`decode`] checks one from anywhere.
 //! From a file that a crash left, [`header_from`] and [`read_record`] read a header and then one
@@ -45,6 +47,7 @@ mod memory;
 mod raw;
 mod records;
 mod step;
+mod witness;
 mod writing;
 
 pub use committing::{CommitFault, commit, fits_between_syncs};
@@ -61,4 +64,5 @@ pub use memory::MemoryJournal;
 pub use raw::{MAX_BODY_LEN, MAX_RECORD_LEN, RawRecord};
 pub use records::read_record;
 pub use step::{MAX_UNSYNCED, Step, Stop};
+pub use witness::{KEY_LEN, Key, WITNESS_LEN, was_synced};
 pub use writing::write_record;

@@ -1,6 +1,7 @@
 //! What records mean.
 
 use crate::cursor::Cursor;
+use crate::digest::DIGEST_LEN;
 use crate::group::Group;
 use rr_schema::Origin;
 
@@ -15,4 +16,6 @@ pub enum Record {
     Cursor(Cursor),
     /// The end of a checkpoint, and how many cells it has.
     End(u64),
+    /// A witness, by which whoever has the directory's key sees that what comes before it was synced.
+    Witness([u8; DIGEST_LEN]),
 }

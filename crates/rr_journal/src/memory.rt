@@ -1,13 +1,15 @@
 //! A journal in memory.
 
 use crate::journal::{Journal, JournalFailed};
+use crate::witness::Key;
 use std::marker::Model;
 
 /// A journal in memory, which tells its bytes and how many of them are synced.
-#[derive(Debug, Drop)]
+#[derive(Drop)]
 pub struct MemoryJournal {
     bytes: Vec<u8>,
     synced: usize,
+    key: Key,
     /// How many calls are taken before one fails; if absent, none does.
     left: Option<u64>,
 }
@@ -18,7 +20,7 @@ impl Model for MemoryJournal {
 
     ghost Value = { MemoryState };
 
-    ghost view = { λ j. record { bytes = j.bytes.items; synced = j.synced } };
+    ghost view = { λ j. record { bytes = j.bytes.items; synced = j.synced; key = j.key.bytes } };
 
     ghost invariant = { λ j. j.synced ≤ length j.bytes.items };
 }
@@ -26,14 +28,16 @@ impl Model for MemoryJournal {
 impl MemoryJournal {
     ghost use Rattle.std.specs.Prelude.{◌≡◌, length};
 
-    /// A journal of these bytes, all of them synced, with no failing call.
-    pub fn new(bytes: Vec<u8>) -> MemoryJournal
-        ensures { result ≡ record { bytes = bytes.items; synced = length bytes.items } }
+    /// A journal of these bytes, all of them synced, with this key and no failing call.
+    pub fn new(bytes: Vec<u8>, key: Key) -> MemoryJournal
+        ensures { result
+            ≡ record { bytes = bytes.items; synced = length bytes.items; key = key.bytes } }
     {
         let synced = bytes.len();
         MemoryJournal {
             bytes,
             synced,
+            key,
             left: None,
         }
     }
@@ -87,6 +91,12 @@ impl Journal for MemoryJournal {
     ghost text = { λ j. Some j.bytes };
 
     ghost synced = { λ j. Some (synced_bytes j) };
+
+    ghost key = { λ j. j.key };
+
+    fn key(&self) -> Key {
+        self.key
+    }
 
     fn append(&mut self, piece: &[u8]) -> Result<(), JournalFailed> {
         if self.is_due() {

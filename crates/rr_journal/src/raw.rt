@@ -1,8 +1,8 @@
 //! A record of a journal, as its kind and its bytes.
 use crate::digest::DIGEST_LEN;
 
-/// The most bytes a record may have.
-pub const MAX_RECORD_LEN: usize = 1_048_576;
+/// The most bytes a record may have: with a witness before it, it fits between two syncs.
+pub const MAX_RECORD_LEN: usize = 1_048_555;
 
 /// How many bytes precede a record's body: its length and its kind.
 pub(crate) const HEAD_LEN: usize = 5;
@@ -11,12 +11,12 @@ pub(crate) const HEAD_LEN: usize = 5;
 pub(crate) const BESIDES_LEN: usize = 13;
 
 /// The most bytes the body of a record may have.
-pub const MAX_BODY_LEN: usize = 1_048_563;
+pub const MAX_BODY_LEN: usize = 1_048_542;
 
 /// What is added to the kind of the first record after a sync.
 pub(crate) const FIRST: u8 = 128;
 
-const _: () = prove!(MAX_RECORD_LEN == 1_048_576);
+const _: () = prove!(MAX_RECORD_LEN == 1_048_555);
 
 const _: () = prove!(HEAD_LEN == 5);
 
@@ -24,7 +24,7 @@ const _: () = prove!(BESIDES_LEN == 13);
 
 const _: () = prove!(BESIDES_LEN == HEAD_LEN + DIGEST_LEN);
 
-const _: () = prove!(MAX_BODY_LEN == 1_048_563);
+const _: () = prove!(MAX_BODY_LEN == 1_048_542);
 
 const _: () = prove!(MAX_BODY_LEN + BESIDES_LEN == MAX_RECORD_LEN);
 

@@ -13,7 +13,7 @@ use Rattle.rr_cells.specs.ReplicaState.{ReplicaState}
 use Rattle.rr_cells.proofs.CellByCell.{join_nothing, trimmed_none}
 use Rattle.rr_cells.proofs.JoinLaws.{join_commutes, join_associates, join_itself, join_trims}
 use Rattle.rr_journal.specs.declared.fault.JournalFault.{JournalFault}
-use Rattle.rr_journal.specs.Body.{Meaning, HasCells, HasOrigin, HasJoined, HasEnded, record_meaning}
+use Rattle.rr_journal.specs.Body.{Meaning, HasCells, HasOrigin, HasJoined, HasEnded, HasWitness, record_meaning}
 use Rattle.rr_journal.specs.Text.{Raw, record_len, whole_within}
 use Rattle.rr_journal.proofs.TextLemmas.{prefixes_are_read, synced_is_read}
 use Rattle.rr_recovery.specs.declared.fault.RecoveryFault.{RecoveryFault}
@@ -69,6 +69,7 @@ meaning_taken x y (HasOrigin origin) e =
     record { unused = or_false _ a.0; state = same_replica _ y x a.1 refl }
 meaning_taken x y (HasJoined cursor) e = record { unused = refl; state = same_replica _ y x e refl }
 meaning_taken x y (HasEnded count) e = record { unused = refl; state = same_replica _ y x e refl }
+meaning_taken x y (HasWitness witness) e = record { unused = refl; state = same_replica _ y x e refl }
 
 pub record RecordTaken (x y : Recovery) (r : Raw) : Type 0 where
   pub meaning : Meaning

@@ -10,7 +10,7 @@ use Rattle.rr_codec.specs.Reading.{checked_count}
 use Rattle.rr_journal.specs.declared.cursor.Cursor.{Cursor}
 use Rattle.rr_journal.specs.declared.fault.JournalFault.{JournalFault}
 use Rattle.rr_journal.specs.declared.fault.JournalFault.TheVariants.{BadArchive, BadKind}
-use Rattle.rr_journal.specs.Body.{PackedCells, Meaning, HasCells, HasOrigin, HasJoined, HasEnded, as_packed, key_at, archive_at, packed_at, group_at, groups_within, groups_of, origin_of, cursor_of, count_of, meaning_at, record_meaning}
+use Rattle.rr_journal.specs.Body.{PackedCells, Meaning, HasCells, HasOrigin, HasJoined, HasEnded, HasWitness, as_packed, key_at, archive_at, packed_at, group_at, groups_within, groups_of, origin_of, cursor_of, count_of, witness_of, meaning_at, record_meaning}
 use Rattle.rr_journal.specs.Fields.{prefix_at, number_at}
 use Rattle.rr_journal.specs.Text.{Raw}
 use Rattle.rr_journal.proofs.FieldLemmas.{bind_ok, unless_ok, ok_is}
@@ -88,25 +88,28 @@ pub cells_checked : (s : Layout) (r : Raw) (gs : List PackedCells) → record_me
     → AllByRecursion (IsCheckedGroup s) gs
 unfolding meaning_at
 cells_checked s r gs e =
-    by_kind (r.kind % 128 == 1) (r.kind % 128 == 2) (r.kind % 128 == 3) (r.kind % 128 == 4) (groups_of s r.body)
-    (origin_of r.body) (cursor_of r.body) (count_of r.body)
+    by_kind (r.kind % 128 == 1) (r.kind % 128 == 2) (r.kind % 128 == 3) (r.kind % 128 == 4) (r.kind % 128 == 5)
+    (groups_of s r.body) (origin_of r.body) (cursor_of r.body) (count_of r.body) (witness_of r.body)
     (within_checked (suc (length r.body)) s r.body) e
   where
-    by_kind : (a b c d : Bool) (groups : Result (List PackedCells) JournalFault) (origin : Result ℕ JournalFault)
+    by_kind : (a b c d f : Bool) (groups : Result (List PackedCells) JournalFault) (origin : Result ℕ JournalFault)
         (cursor : Result Cursor JournalFault) (count : Result ℕ JournalFault)
+        (witness : Result (List ℕ) JournalFault)
         → ((hs : List PackedCells) → groups ≡ Ok hs → AllByRecursion (IsCheckedGroup s) hs)
         → ◌≡◌ {A = Read} (if a then (groups >>= λ x. Ok (HasCells x)) else (if b then (origin >>= λ x. Ok (HasOrigin x))
         else (if c then (cursor >>= λ x. Ok (HasJoined x)) else (if d then (count >>= λ x. Ok (HasEnded x))
-        else Err BadKind)))) (Ok (HasCells gs)) → AllByRecursion (IsCheckedGroup s) gs
-    by_kind true b c d (Ok hs) origin cursor count later h = later gs (cc h)
-    by_kind true b c d (Err fault) origin cursor count later h = absurd (cc h)
-    by_kind false true c d groups (Ok o) cursor count later h = absurd (cc h)
-    by_kind false true c d groups (Err fault) cursor count later h = absurd (cc h)
-    by_kind false false true d groups origin (Ok p) count later h = absurd (cc h)
-    by_kind false false true d groups origin (Err fault) count later h = absurd (cc h)
-    by_kind false false false true groups origin cursor (Ok n) later h = absurd (cc h)
-    by_kind false false false true groups origin cursor (Err fault) later h = absurd (cc h)
-    by_kind false false false false groups origin cursor count later h = absurd (cc h)
+        else (if f then (witness >>= λ x. Ok (HasWitness x)) else Err BadKind))))) (Ok (HasCells gs)) → AllByRecursion (IsCheckedGroup s) gs
+    by_kind true b c d f (Ok hs) origin cursor count witness later h = later gs (cc h)
+    by_kind true b c d f (Err fault) origin cursor count witness later h = absurd (cc h)
+    by_kind false true c d f groups (Ok o) cursor count witness later h = absurd (cc h)
+    by_kind false true c d f groups (Err fault) cursor count witness later h = absurd (cc h)
+    by_kind false false true d f groups origin (Ok p) count witness later h = absurd (cc h)
+    by_kind false false true d f groups origin (Err fault) count witness later h = absurd (cc h)
+    by_kind false false false true f groups origin cursor (Ok n) witness later h = absurd (cc h)
+    by_kind false false false true f groups origin cursor (Err fault) witness later h = absurd (cc h)
+    by_kind false false false false true groups origin cursor count (Ok m) later h = absurd (cc h)
+    by_kind false false false false true groups origin cursor count (Err fault) later h = absurd (cc h)
+    by_kind false false false false false groups origin cursor count witness later h = absurd (cc h)
 
 -- ---- with a recovery's faults
 

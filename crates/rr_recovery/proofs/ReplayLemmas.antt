@@ -7,7 +7,7 @@ use Rattle.rr_cells.specs.CellBounds.{NamedCell}
 use Rattle.rr_journal.specs.declared.cursor.Cursor.{Cursor}
 use Rattle.rr_journal.specs.declared.fault.JournalFault.{JournalFault}
 use Rattle.rr_journal.specs.declared.step.Stop.{Stop}
-use Rattle.rr_journal.specs.Body.{Meaning, HasCells, HasOrigin, HasJoined, HasEnded, record_meaning}
+use Rattle.rr_journal.specs.Body.{Meaning, HasCells, HasOrigin, HasJoined, HasEnded, HasWitness, record_meaning}
 use Rattle.rr_journal.specs.Cursor.{behind, behind_all, moved_by}
 use Rattle.rr_journal.specs.Reading.{record_at, records_of, stop_before, stop_of, followed_by}
 use Rattle.rr_journal.specs.Text.{Raw, after, chain, record_len, records_len}
@@ -159,6 +159,7 @@ no_read_in_taken x (HasCells groups) h = no_read_in_cells x (flat_map group_cell
 no_read_in_taken x (HasOrigin origin) h = no_read_in_origin (origin == x.replica.origin) _ h
 no_read_in_taken x (HasJoined cursor) h = absurd (cc h)
 no_read_in_taken x (HasEnded count) h = absurd (cc h)
+no_read_in_taken x (HasWitness witness) h = absurd (cc h)
 
 pub never_read_failed : (x : Recovery) (r : Raw) → taken_record x r ≡ Err ReadFailed → ⊥
 never_read_failed x r h = by_read (record_meaning x.replica.schema r) h

@@ -8,7 +8,7 @@ use Rattle.rr_cells.specs.ReplicaState.{ReplicaState}
 use Rattle.rr_codec.specs.declared.fault.CodecFault.{CodecFault}
 use Rattle.rr_codec.specs.Fields.{SlotEntry}
 use Rattle.rr_codec.specs.Reading.{cells_of}
-use Rattle.rr_journal.specs.Body.{Meaning, PackedCells, HasCells, HasOrigin, HasJoined, HasEnded}
+use Rattle.rr_journal.specs.Body.{Meaning, PackedCells, HasCells, HasOrigin, HasJoined, HasEnded, HasWitness}
 
 -- a cell of a key and an archive
 abbrev pub named_by : List ℕ → ℕ → SlotEntry → NamedCell
@@ -29,6 +29,7 @@ cells_of_record (HasCells groups) = flat_map group_cells groups
 cells_of_record (HasOrigin origin) = []
 cells_of_record (HasJoined cursor) = []
 cells_of_record (HasEnded count) = []
+cells_of_record (HasWitness witness) = []
 
 -- with these cells joined in, in order
 abbrev pub with_all : ReplicaState → List NamedCell → ReplicaState

@@ -9,7 +9,7 @@ use Rattle.rr_cells.specs.Joins.{join, join_cells}
 use Rattle.rr_cells.specs.ReplicaState.{ReplicaState}
 use Rattle.rr_journal.specs.declared.fault.JournalFault.{JournalFault}
 use Rattle.rr_journal.specs.declared.step.TheConstants.{MAX_UNSYNCED}
-use Rattle.rr_journal.specs.Body.{Meaning, HasCells, HasOrigin, HasJoined, HasEnded, record_meaning}
+use Rattle.rr_journal.specs.Body.{Meaning, HasCells, HasOrigin, HasJoined, HasEnded, HasWitness, record_meaning}
 use Rattle.rr_journal.specs.Reading.{records_of}
 use Rattle.rr_journal.specs.Text.{AllFit, Raw, records_text, whole_within}
 use Rattle.rr_recovery.specs.Joining.{cells_of_record, with_all}
@@ -30,6 +30,7 @@ origins_of (HasCells groups) = map (λ e. e.0.origin) (cells_of_record (HasCells
 origins_of (HasOrigin origin) = origin ∷ []
 origins_of (HasJoined cursor) = []
 origins_of (HasEnded count) = []
+origins_of (HasWitness witness) = []
 
 -- whether a record names an origin
 abbrev pub is_named : ℕ → Meaning → Bool

@@ -9,7 +9,7 @@ use Rattle.rr_cells.specs.ReplicaState.{ReplicaState}
 use Rattle.rr_replica.specs.ReplicaWithRoom.{ReplicaWithRoom, replica_state}
 use Rattle.rr_codec.specs.Reading.{checked_count}
 use Rattle.rr_journal.specs.declared.fault.JournalFault.{JournalFault}
-use Rattle.rr_journal.specs.Body.{Meaning, PackedCells, HasCells, HasOrigin, HasJoined, HasEnded, record_meaning}
+use Rattle.rr_journal.specs.Body.{Meaning, PackedCells, HasCells, HasOrigin, HasJoined, HasEnded, HasWitness, record_meaning}
 use Rattle.rr_journal.specs.Text.{Raw}
 use Rattle.rr_recovery.specs.declared.fault.RecoveryFault.{RecoveryFault}
 use Rattle.rr_recovery.specs.declared.fault.RecoveryFault.TheVariants.{BadRecord, OriginUsed, Memory}
@@ -72,6 +72,7 @@ taken x (HasEnded count) = Ok (with_found x
       records = x.found.records;
       cells = x.found.cells;
     }))
+taken x (HasWitness witness) = Ok x
 
 -- a result of records, its fault as a recovery's
 abbrev pub as_bad : {A : Type 0} → Result A JournalFault → Result A RecoveryFault

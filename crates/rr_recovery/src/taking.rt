@@ -170,5 +170,6 @@ pub(crate) fn take_record<A: Cells>(
             found.end = Some(count);
             Ok(())
         }
+        Record::Witness(_) => Ok(()),
     }
 }

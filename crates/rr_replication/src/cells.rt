@@ -71,8 +71,8 @@ fn meaning_of(alloc: Global, raw: &RawRecord, schema: &Schema) -> Result<Record,
     }
 }
 
-/// Appends the cells of a record, in order, or refuses one that means nothing. An origin, a cursor
-/// and an end have none.
+/// Appends the cells of a record, in order, or refuses one that means nothing. An origin, a cursor,
+/// an end and a witness have none.
 pub(crate) fn push_record(
     alloc: Global,
     raw: &RawRecord,
@@ -84,6 +84,6 @@ pub(crate) fn push_record(
 {
     match meaning_of(alloc, raw, schema)? {
         Record::Cells(groups) => push_groups(&groups, schema, cells),
-        Record::Origin(_) | Record::Cursor(_) | Record::End(_) => Ok(()),
+        Record::Origin(_) | Record::Cursor(_) | Record::End(_) | Record::Witness(_) => Ok(()),
     }
 }

@@ -6,6 +6,7 @@ use rr_batch::{NotNamed, OriginNames, TakenOrigin, Writer, commit_batch, take_or
 use rr_connection::{Piece, Request};
 use rr_desk::{Keeper, open};
 use rr_fakes::clock::Moments;
+use rr_fakes::journals::KEY;
 use rr_fakes::replicas::minutes;
 use rr_journal::MemoryJournal;
 use rr_line::Precision;
@@ -33,7 +34,7 @@ impl OriginNames for Names {
 /// The origin 1, taken over a journal whose call after this many others fails, unless that fails;
 /// and how many bytes the journal has then.
 fn taken(alloc: Global, is_full: bool, calls: u64) -> (Option<TakenOrigin>, usize) {
-    let mut journal = MemoryJournal::new(Vec::new(alloc)).failing(calls);
+    let mut journal = MemoryJournal::new(Vec::new(alloc), KEY).failing(calls);
     let Ok(origin) = Origin::new(1) else {
         return (None, 0);
     };
@@ -96,7 +97,7 @@ fn answers_of<R: Wait>(
     rt: &R,
     alloc: Global,
     keeper: &mut Keeper<PackedArchive>,
-    taken: Option<TakenOrigin>,
+    taken: &Option<TakenOrigin>,
     calls: u64,
 ) -> Result<Vec<u8>, AllocError> {
     let mut writer = Writer::new(alloc, Precision::Ns, None);
@@ -104,7 +105,7 @@ fn answers_of<R: Wait>(
     let mut batch = Vec::new(alloc);
     for item in items(alloc)? {
         let waiting = match taken {
-            Some(taken) => writer.take(taken, item, keeper, &mut clock, rt),
+            Some(taken) => writer.take(*taken, item, keeper, &mut clock, rt),
             None => Ok(writer.put_off(&item)?),
         };
         match waiting {
@@ -112,7 +113,7 @@ fn answers_of<R: Wait>(
             Err(_) => return Err(AllocError),
         }
     }
-    let mut journal = MemoryJournal::new(Vec::new(alloc)).failing(calls);
+    let mut journal = MemoryJournal::new(Vec::new(alloc), KEY).failing(calls);
     let mut cursor = start();
     let Ok(answers) = commit_batch(alloc, batch, "rr-2", keeper, &mut journal, &mut cursor, rt)
     else {
@@ -129,7 +130,7 @@ fn answers_of<R: Wait>(
 fn answered<R: Wait>(
     rt: &R,
     alloc: Global,
-    taken: Option<TakenOrigin>,
+    taken: &Option<TakenOrigin>,
     calls: u64,
 ) -> Option<Vec<u8>> {
     let (mut keeper, _readers) = open(alloc, rt, minutes(alloc, 1, 3).ok()?, 1).ok()?;
@@ -150,8 +151,8 @@ const UNSAVED: &[u8] =
 #[test]
 fn lines_are_acknowledged_only_once_they_are_synced(rt: HostRuntime) {
     let (taken, _) = taken(rt.alloc(), false, u64::MAX);
-    let saved = answered(&rt, rt.alloc(), taken, u64::MAX);
-    let unsaved = answered(&rt, rt.alloc(), taken, 0);
+    let saved = answered(&rt, rt.alloc(), &taken, u64::MAX);
+    let unsaved = answered(&rt, rt.alloc(), &taken, 0);
     assert_eq!(rt;
         (saved.as_deref(), unsaved.as_deref()),
         (Some(SAVED), Some(UNSAVED))
@@ -166,7 +167,7 @@ const PUT_OFF: &[u8] =
 fn lines_are_put_off_until_the_origin_is_taken(rt: HostRuntime) {
     let (unnamed, none) = taken(rt.alloc(), true, u64::MAX);
     let (unrecorded, rest) = taken(rt.alloc(), false, 0);
-    let answers = answered(&rt, rt.alloc(), unnamed, u64::MAX);
+    let answers = answered(&rt, rt.alloc(), &unnamed, u64::MAX);
     assert_eq!(rt;
         (none, unrecorded.is_none(), rest, answers.as_deref()),
         (0, true, 0, Some(PUT_OFF))

@@ -6,6 +6,7 @@ use rr_checkpoint::{CheckpointFault, write_checkpoint};
 use rr_commit::commit_changes;
 use rr_desk::{Keeper, Reader, open};
 use rr_directory::{FileName, MemoryDirectory, MemoryFile, empty_replica, recover};
+use rr_fakes::journals::KEY;
 use rr_journal::{Cursor, MemoryJournal, header_bytes};
 use rr_key::SeriesKey;
 use rr_packed::PackedArchive;
@@ -51,7 +52,7 @@ fn filled<R: Wait>(
     }
     keeper.publish(rt).ok()?;
     let header = header_bytes(alloc, keeper.schema(), cursor).ok()?;
-    let mut journal = MemoryJournal::new(header);
+    let mut journal = MemoryJournal::new(header, KEY);
     commit_changes(alloc, keeper, &mut journal, cursor).ok()?;
     Vec::from_slice(alloc, journal.bytes()).ok()
 }
@@ -77,7 +78,7 @@ fn recovered(
     let schema = schema(alloc)?;
     let mut replica = empty_replica(alloc, &schema, Origin::new(9).ok()?).ok()?;
     let directory = MemoryDirectory::new(&files);
-    recover(alloc, &directory, &names, &schema, &mut replica).ok()?;
+    recover(alloc, &directory, &names, &schema, None, &mut replica).ok()?;
     Some(replica)
 }
 

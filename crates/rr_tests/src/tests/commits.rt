@@ -3,6 +3,7 @@ use super::journal::start;
 use rr_base::{Counted, Origin};
 use rr_commit::{ChangesFault, commit_changes};
 use rr_desk::{Keeper, open};
+use rr_fakes::journals::KEY;
 use rr_fakes::replicas::{minutes, schema};
 use rr_journal::{Cursor, MemoryJournal, Stop};
 use rr_key::SeriesKey;
@@ -51,7 +52,7 @@ fn committed(
     alloc: Global,
     keeper: &mut Keeper<PackedArchive>,
 ) -> Option<(usize, usize, Stop, bool)> {
-    let mut journal = MemoryJournal::new(Vec::new(alloc));
+    let mut journal = MemoryJournal::new(Vec::new(alloc), KEY);
     let mut cursor = start();
     put_two(alloc, keeper, 0)?;
     match commit_changes(alloc, keeper, &mut journal, &mut cursor) {
@@ -90,7 +91,7 @@ fn refused(
     alloc: Global,
     keeper: &mut Keeper<PackedArchive>,
 ) -> Option<(Option<ChangesFault>, Cursor, usize)> {
-    let mut journal = MemoryJournal::new(Vec::new(alloc)).failing(0);
+    let mut journal = MemoryJournal::new(Vec::new(alloc), KEY).failing(0);
     let mut cursor = start();
     put_two(alloc, keeper, 0)?;
     let fault = commit_changes(alloc, keeper, &mut journal, &mut cursor).err();

@@ -2,6 +2,7 @@
 use super::journal::start;
 use rr_base::{ArchiveSpec, Schema};
 use rr_directory::{Directory, FileName};
+use rr_fakes::journals::KEY;
 use rr_files::{DataDirectory, JournalFile, OpenFault};
 use rr_journal::Journal;
 use std::alloc::Global;
@@ -25,7 +26,7 @@ fn created<R: Files>(
         den: 1,
     };
     let schema = Schema::new(alloc, 60, &[minutes]).ok()?;
-    directory.create_journal(alloc, &start(), &schema).ok()
+    directory.create_journal(alloc, &start(), &schema, KEY).ok()
 }
 
 /// How many bytes of a journal are synced, and how many are on disk.
@@ -52,7 +53,7 @@ fn journal_lens<R: Files<File = File>>(rt: &R, alloc: Global) -> Option<[(u64, u
     let more = lens(alloc, &directory, &journal)?;
     journal.cut_back().ok()?;
     let cut_back = lens(alloc, &directory, &journal)?;
-    let again = directory.open_journal(alloc, FIRST, 6).ok()?;
+    let again = directory.open_journal(alloc, FIRST, 6, KEY).ok()?;
     Some([
         new,
         appended,

@@ -7,7 +7,8 @@ use rr_base::Origin;
 use rr_directory::{
     FileFault, FileName, MemoryDirectory, MemoryFile, Refusal, last_origin, recover, start_of,
 };
-use rr_fakes::journals::{HEADER, HEADER_101, RECORDS, file};
+use rr_fakes::journals::{HEADER, HEADER_101, KEY, RECORDS, WITNESSED, file};
+use rr_journal::Key;
 use rr_replica::Replica;
 use std::alloc::Global;
 
@@ -39,8 +40,8 @@ const ORIGIN_1002: [u8; 15] = [
 /// how many bytes are torn; or which file is refused, and why.
 type Told = Result<(usize, Option<Origin>, Option<u64>, u64), Refusal>;
 
-/// What a recovery of these files under the origin 9 tells.
-fn told(alloc: Global, files: &[MemoryFile<'_>]) -> Option<Told> {
+/// What a recovery of these files under the origin 9, with this key of their witnesses, tells.
+fn told_with(alloc: Global, files: &[MemoryFile<'_>], key: Option<Key>) -> Option<Told> {
     let schema = schema(alloc)?;
     let origin = Origin::new(9).ok()?;
     let directory = MemoryDirectory::new(files);
@@ -50,7 +51,7 @@ fn told(alloc: Global, files: &[MemoryFile<'_>]) -> Option<Told> {
         names.push(file.name).ok()?;
     }
     let start = start_of(alloc, &names).ok()?;
-    let recovered = match recover(alloc, &directory, &start.files, &schema, &mut replica) {
+    let recovered = match recover(alloc, &directory, &start.files, &schema, key, &mut replica) {
         Ok(recovered) => recovered,
         Err(refusal) => return Some(Err(refusal)),
     };
@@ -60,6 +61,11 @@ fn told(alloc: Global, files: &[MemoryFile<'_>]) -> Option<Told> {
     }
     let end = recovered.end.map(|end| end.offset);
     Some(Ok((replica.cell_count(), origin, end, recovered.torn)))
+}
+
+/// The same without a key.
+fn told(alloc: Global, files: &[MemoryFile<'_>]) -> Option<Told> {
+    told_with(alloc, files, None)
 }
 
 /// A file of the journal.
@@ -150,4 +156,34 @@ fn the_last_file_alone_may_be_torn(rt: HostRuntime) {
         told_of_cut(rt.alloc(), 86, 0),
         Some(Err(Refusal { file, fault }))
     );
+}
+
+/// How many bytes of the first batch of the file with witnesses there are, behind the header.
+const FIRST_BATCH: usize = 122;
+
+/// Whether that file is refused as damaged once the byte at a place is changed.
+fn is_damaged(alloc: Global, at: usize) -> Option<bool> {
+    let mut bytes = Vec::from_slice(alloc, &WITNESSED).ok()?;
+    let byte = bytes.get_mut(at)?;
+    *byte ^= 4;
+    let told = told_with(alloc, &[journal(0, &bytes)], Some(KEY))?;
+    let Err(refusal) = told else {
+        return Some(false);
+    };
+    Some(matches!(refusal.fault, FileFault::Damaged { .. }))
+}
+
+/// How many changed bytes of these are told as damage.
+fn damaged(alloc: Global, places: std::ops::Range<usize>) -> usize {
+    places
+        .filter(|at: &usize| is_damaged(alloc, *at) == Some(true))
+        .count()
+}
+
+#[test]
+fn a_changed_byte_of_what_was_synced_is_damage(rt: HostRuntime) {
+    let last = HEADER.len() + FIRST_BATCH;
+    let first = damaged(rt.alloc(), HEADER.len()..last);
+    let second = damaged(rt.alloc(), last..WITNESSED.len());
+    assert_eq!(rt; (first, second), (FIRST_BATCH, 0));
 }

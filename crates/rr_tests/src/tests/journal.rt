@@ -2,7 +2,7 @@
 //!
 //! The bytes were made from the format by a script in another language.
 use rr_base::{ArchiveSpec, Counted, Origin, Schema};
-use rr_fakes::journals::{HEADER, RECORDS};
+use rr_fakes::journals::{HEADER, KEY, RECORDS, WITNESSED};
 use rr_journal::{
     Cursor, Group, JournalFault, MemoryJournal, RawRecord, Record, Step, Stop, commit, decode,
     encode, fits_between_syncs, header_bytes, header_from, read_record,
@@ -64,7 +64,7 @@ fn written(alloc: Global, first: &[RawRecord], second: &[RawRecord]) -> Option<V
     }
     let mut cursor = start();
     let mut bytes = header_bytes(alloc, &schema(alloc)?, &cursor).ok()?;
-    let mut journal = MemoryJournal::new(Vec::new(alloc));
+    let mut journal = MemoryJournal::new(Vec::new(alloc), KEY);
     match commit(&mut journal, &mut cursor, first) {
         Ok(()) => (),
         Err(_) => return None,
@@ -90,8 +90,8 @@ fn all_bytes(alloc: Global) -> Option<Vec<u8>> {
     written(alloc, &first, &second)
 }
 
-/// The bytes that the format requires.
-fn wanted(alloc: Global) -> Option<Vec<u8>> {
+/// The bytes of a file of version 1.
+fn first_version(alloc: Global) -> Option<Vec<u8>> {
     let mut bytes = Vec::from_slice(alloc, &HEADER).ok()?;
     bytes.extend_from_slice(&RECORDS).ok()?;
     Some(bytes)
@@ -99,7 +99,8 @@ fn wanted(alloc: Global) -> Option<Vec<u8>> {
 
 #[test]
 fn a_journal_is_written_as_the_format_says(rt: HostRuntime) {
-    assert_eq!(rt; all_bytes(rt.alloc()), wanted(rt.alloc()));
+    let wanted = Vec::from_slice(rt.alloc(), &WITNESSED).ok();
+    assert_eq!(rt; all_bytes(rt.alloc()), wanted);
 }
 
 /// How many records are read, each of which means something, and why reading stops.
@@ -152,7 +153,7 @@ fn is_read(alloc: Global, bytes: &[u8], len: usize) -> bool {
 
 #[test]
 fn each_prefix_is_read_up_to_its_last_whole_record(rt: HostRuntime) {
-    let bytes = wanted(rt.alloc()).unwrap_or(Vec::new(rt.alloc()));
+    let bytes = first_version(rt.alloc()).unwrap_or(Vec::new(rt.alloc()));
     let mut right = 0u32;
     for len in 0..=bytes.len() {
         right = right.saturating_add(u32::from(is_read(rt.alloc(), &bytes, len)));
@@ -179,7 +180,7 @@ fn is_seen(alloc: Global, bytes: &[u8], at: usize) -> bool {
 
 #[test]
 fn each_changed_byte_is_seen(rt: HostRuntime) {
-    let bytes = wanted(rt.alloc()).unwrap_or(Vec::new(rt.alloc()));
+    let bytes = first_version(rt.alloc()).unwrap_or(Vec::new(rt.alloc()));
     let mut seen = 0u32;
     for at in 0..bytes.len() {
         seen = seen.saturating_add(u32::from(is_seen(rt.alloc(), &bytes, at)));

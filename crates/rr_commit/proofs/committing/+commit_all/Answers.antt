@@ -2,7 +2,7 @@ use Rattle.std.proofs.Common.{rules, ◌≡◌, ◌++◌, ◌∙◌, map, sym, a
 use Rattle.std.proofs.lemmas.List.{map-append}
 use Rattle.rr_journal.specs.Text.{Raw, raw_of}
 use Rattle.rr_commit.specs.Committing.{CommitsAll}
-use Rattle.rr_commit.proofs.CommittingLemmas.{few_of_one, one_batch, then_others}
+use Rattle.rr_commit.proofs.CommittingLemmas.{few_of_one, nothing_to_commit, one_batch, then_others}
 use Rattle.rr_commit.proofs.committing.+commit_all.Goals.{then-records-lt2-via-then-records-lt2, then-records-lt2-via-else-records-lt2+then-fits_between_syncs}
 use Rattle.rr_commit.proofs.committing.+commit_all.Goals as goal
 
@@ -12,9 +12,14 @@ commit-requires-clause-few g t c = elim c.then-records-lt2.branch [
   | then-records-lt2-via-else-records-lt2+then-fits_between_syncs w ↦ search rules
 ]
 
+pub returns-then-is_empty : goal.returns-then-is_empty
+returns-then-is_empty g t c =
+    nothing_to_commit c.args.records.now (g.J.Journal.synced c.args.journal.now) (g.J.Journal.text c.args.journal.now)
+    c.args.cursor.now (search rules) (search rules) c.requires.synced
+
 pub returns-then-records-lt2 : goal.returns-then-records-lt2
 returns-then-records-lt2 g t c =
-    one_batch (map raw_of c.args.records.now) (g.J.Journal.synced c.args.journal.now)
+    one_batch (g.J.Journal.key c.args.journal.now) (map raw_of c.args.records.now) (g.J.Journal.synced c.args.journal.now)
     (g.J.Journal.synced c.commit.new.journal) (g.J.Journal.text c.commit.new.journal) c.args.cursor.now
     c.commit.new.cursor c.commit.result (search rules) c.commit.ensures
 

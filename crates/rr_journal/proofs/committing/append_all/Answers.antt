@@ -24,9 +24,9 @@ append_record-requires g c =
     let i = c.loop-raw.raw-index in
     let r = c.raw-item.result in
     let item : get_or rs i r ≡ r = search rules in
-    let fits : length r.body.items ≤ 1048563 = subst (λ (x : RawRecord). length x.body.items ≤ 1048563) item
+    let fits : length r.body.items ≤ 1048542 = subst (λ (x : RawRecord). length x.body.items ≤ 1048542) item
     (c.requires i r c.loop-raw-test.true) in
-    subst (λ (l : List ℕ). length l ≤ 1048563) (sym c.as_slice.ensures.value) fits
+    subst (λ (l : List ℕ). length l ≤ 1048542) (sym c.as_slice.ensures.value) fits
 
 pub loop-raw-preserved : goal.loop-raw-preserved
 loop-raw-preserved g c =

@@ -2,7 +2,7 @@ use Rattle.std.proofs.Common.{◌≡◌, drop, IfSome}
 use Rattle.rr_replica.specs.ReplicaWithRoom.{replica_state}
 use Rattle.rr_directory.specs.Reading.{after_files}
 use Rattle.rr_directory.specs.Recovering.{first_reached, reached}
-use Rattle.rr_directory.proofs.recovered.recover.Given as goal
+use Rattle.rr_directory.proofs.recovered.read_files.Given as goal
 
 -- to read the files that are left now is to read all
 abbrev pub invariant-loop-i : goal.invariant-loop-i
