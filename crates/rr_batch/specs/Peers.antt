@@ -10,7 +10,7 @@ use Rattle.rr_desk.specs.ReaderState.{with_joined}
 use Rattle.rr_journal.specs.declared.cursor.Cursor.{Cursor}
 use Rattle.rr_journal.specs.Body.{HasJoined, raw_text}
 use Rattle.rr_journal.specs.Keeping.{Committed}
-use Rattle.rr_journal.specs.Text.{batch_of}
+use Rattle.rr_journal.specs.Witness.{batch_of}
 
 -- a cell is of this origin, under a number that isn't below the next one
 abbrev pub is_unwritten : ℕ → ℕ → Cell → Bool
@@ -30,7 +30,8 @@ CellsOfTheSchemaAreJoined =
     (k : KeeperState) (cells : List Cell) → AllByRecursion (λ c. IsCellOf k.schema (owned_cell c)) cells
     → joined_to k cells ≡ with_joined k cells
 
--- the record of a cursor was committed
-abbrev pub RecordsCursor : Cursor → Option (List ℕ) → Option (List ℕ) → Option (List ℕ) → Cursor → Cursor → Type 0
-RecordsCursor read old new text before cursor =
-    Committed old new text before cursor (batch_of (raw_text (HasJoined read) ∷ []))
+-- the record of a cursor was committed, behind a witness under a key
+abbrev pub RecordsCursor : Cursor → List ℕ → Option (List ℕ) → Option (List ℕ) → Option (List ℕ) → Cursor → Cursor
+    → Type 0
+RecordsCursor read key old new text before cursor =
+    Committed old new text before cursor (batch_of key before.offset (raw_text (HasJoined read) ∷ []))

@@ -1,7 +1,6 @@
 -- The names of the origins that a node has taken, and what becomes of items while none is.
-use Rattle.std.specs.Prelude.{◌==◌, ℕ, Bool, true, false, List, [], length, Option, Some, None, IfSome, Contains, if◌then◌else◌}
-use Rattle.rr_connection.specs.declared.lines.Piece.{Piece}
-use Rattle.rr_connection.specs.Requests.{RequestView, request_view}
+use Rattle.std.specs.Prelude.{◌==◌, ℕ, Bool, List, [], length, Option, Some, None, IfSome, Contains, if◌then◌else◌}
+use Rattle.rr_connection.specs.Requests.{request_view}
 use Rattle.rr_line.specs.declared.precision.Precision.{Precision}
 use Rattle.rr_node.specs.declared.report.Report.{Report}
 use Rattle.rr_reactor.specs.declared.item.Work.{Work}
@@ -25,8 +24,7 @@ text_of (work.Piece piece) = piece.text.items
 
 -- a body without a byte has no line; any other is put off
 abbrev pub body_put_off : List ℕ → PendingView
-body_put_off [] = body [] no_lines
-body_put_off (byte ∷ bytes) = decided put_off_write
+body_put_off bytes = if length bytes == 0 then body [] no_lines else decided put_off_write
 
 -- unless the request is refused in any case
 abbrev pub request_put_off : Option ReplyView → List ℕ → PendingView
@@ -35,8 +33,8 @@ request_put_off None bytes = body_put_off bytes
 
 -- a piece without a byte is answered; the connection of any other is closed
 abbrev pub piece_put_off : Bool → List ℕ → PendingView
-piece_put_off is_last [] = lines [] (if is_last then Some no_lines else None)
-piece_put_off is_last (byte ∷ bytes) = closed
+piece_put_off is_last bytes =
+    if length bytes == 0 then lines [] (if is_last then Some no_lines else None) else closed
 
 abbrev pub put_off : Precision → Work → PendingView
 put_off precision (work.Request request) =

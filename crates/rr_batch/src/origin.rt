@@ -29,7 +29,8 @@ pub fn commit_origin<J: Journal>(
     cursor: &mut Cursor,
 ) -> Result<(), ChangesFault>
     requires { J.text journal.old ≡ J.synced journal.old }
-    ensures recorded { OnOk result (RecordsOrigin origin (J.synced journal.old)
+    ensures recorded { OnOk result (RecordsOrigin origin (J.key journal.old)
+        (J.synced journal.old)
         (J.synced journal.new) (J.text journal.new) cursor.old cursor.new) }
     ensures grows { Grows (J.synced journal.old) (J.synced journal.new) }
 {

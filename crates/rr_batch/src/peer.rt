@@ -68,7 +68,8 @@ pub fn commit_cursor<J: Journal>(
     cursor: &mut Cursor,
 ) -> Result<(), ChangesFault>
     requires { J.text journal.old ≡ J.synced journal.old }
-    ensures recorded { OnOk result (RecordsCursor read.now (J.synced journal.old)
+    ensures recorded { OnOk result (RecordsCursor read.now (J.key journal.old)
+        (J.synced journal.old)
         (J.synced journal.new) (J.text journal.new) cursor.old cursor.new) }
     ensures grows { Grows (J.synced journal.old) (J.synced journal.new) }
 {

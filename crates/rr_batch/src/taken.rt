@@ -64,7 +64,8 @@ pub fn take_origin<N: OriginNames, J: Journal>(
     requires { J.text journal.old ≡ J.synced journal.old }
     ensures origin { IfOk result (λ taken. taken.origin ≡ origin) }
     ensures named { OnOk result (IsNamed (N.named names.new) origin) }
-    ensures recorded { OnOk result (RecordsOrigin origin (J.synced journal.old)
+    ensures recorded { OnOk result (RecordsOrigin origin (J.key journal.old)
+        (J.synced journal.old)
         (J.synced journal.new) (J.text journal.new) cursor.old cursor.new) }
     ensures in_order { IsNamed (N.named names.new) origin
         ⊎ (J.synced journal.new ≡ J.synced journal.old) }

@@ -7,10 +7,12 @@ use rr_directory::{
     Directory, DirectoryFault, FileEnding, FileFault, FileName, FileReport, Recovered, Refusal,
     empty_replica, push_cell, push_report, push_verdict, recover, schema_in, start_of, survey,
 };
+use rr_files::key_in;
 use rr_io::Counted;
 use rr_io::stream::{flush, write_all};
+use rr_journal::Key;
 use rr_packed::PackedArchive;
-use rr_process::{Ending, ToolFault};
+use rr_process::{Ending, ToolFault, file_fault};
 use rr_replica::{CellWalk, Replica};
 use rr_schema::{ArchiveSpec, Origin, Schema};
 use rr_words::JournalWord;
@@ -32,6 +34,8 @@ struct StoppedNode<'a, R> {
     folder: Folder<'a, R>,
     files: Vec<FileName>,
     schema: Schema,
+    /// The key of the witnesses, if there is one.
+    key: Option<Key>,
 }
 
 /// A schema for a directory in which no header names one. It has no file then, or its first one is
@@ -66,6 +70,14 @@ fn run_fault(fault: FileFault) -> Option<ToolFault> {
     }
 }
 
+/// The key of the witnesses of the directory at a path, if it has one.
+fn key_of<R: Files + Eprint>(rt: &R, alloc: Global, path: &str) -> Result<Option<Key>, ToolFault> {
+    match key_in(rt, alloc, path) {
+        Ok(key) => Ok(key),
+        Err(error) => Err(file_fault(rt, path, &error)),
+    }
+}
+
 impl<'a, R: Files + Eprint> StoppedNode<'a, R> {
     /// The files of a directory, and the schema that the first of them names.
     fn new(rt: &'a R, alloc: Global, path: &'a str) -> Result<StoppedNode<'a, R>, ToolFault> {
@@ -91,6 +103,7 @@ impl<'a, R: Files + Eprint> StoppedNode<'a, R> {
             folder,
             files,
             schema,
+            key: key_of(rt, alloc, path)?,
         })
     }
 
@@ -105,7 +118,14 @@ impl<'a, R: Files + Eprint> StoppedNode<'a, R> {
                 &self.schema,
                 origin,
             )?;
-            let report = survey(self.alloc, &self.folder, name, &self.schema, &mut replica);
+            let report = survey(
+                self.alloc,
+                &self.folder,
+                name,
+                &self.schema,
+                self.key,
+                &mut replica,
+            );
             if report.ending != FileEnding::Refused(FileFault::OriginUsed) {
                 return Ok(Some(report));
             }
@@ -129,6 +149,7 @@ impl<'a, R: Files + Eprint> StoppedNode<'a, R> {
                 &self.folder,
                 &self.files,
                 &self.schema,
+                self.key,
                 &mut replica,
             ) {
                 Ok(recovered) => return Ok(Some(Ok((replica, recovered)))),

@@ -1,6 +1,7 @@
 //! A directory of the host.
 
 use rr_directory::{Directory, DirectoryFault, FileName};
+use rr_files::tail_of;
 use rr_process::{ToolFault, file_fault};
 use std::alloc::{AllocError, Global};
 use std::io::{BufReader, ErrorKind};
@@ -85,6 +86,14 @@ impl<'a, R: Files + Eprint> Directory for Folder<'a, R> {
         let path = self.file_path(alloc, name)?;
         match fs::metadata(self.rt, path.as_str()) {
             Ok(found) => Ok(found.len()),
+            Err(error) => Err(self.fault(path.as_str(), &error)),
+        }
+    }
+
+    fn tail(&self, alloc: Global, name: FileName, len: u64) -> Result<Vec<u8>, DirectoryFault> {
+        let path = self.file_path(alloc, name)?;
+        match tail_of(self.rt, alloc, path.as_str(), len) {
+            Ok(tail) => Ok(tail),
             Err(error) => Err(self.fault(path.as_str(), &error)),
         }
     }

@@ -17,6 +17,7 @@ use rr_desk::Keeper;
 use rr_directory::FileName;
 use rr_files::DataDirectory;
 use rr_host::Clock;
+use rr_journal::{Journal, commit};
 use rr_packed::PackedArchive;
 use rr_process::Ending;
 use rr_reactor::{Answer, Item, Queues};
@@ -94,8 +95,8 @@ fn take_all<C: Clock, R: Wait>(
 ) -> Result<Vec<Waiting>, BatchFault> {
     let mut batch = Vec::with_capacity(alloc, items.len())?;
     for item in items {
-        let waiting = match taken {
-            Some(taken) => writer.take(taken, item, keeper, clock, rt)?,
+        let waiting = match &taken {
+            Some(taken) => writer.take(*taken, item, keeper, clock, rt)?,
             None => writer.put_off(&item)?,
         };
         batch.push(waiting)?;
@@ -238,7 +239,8 @@ impl<F: Write + Seek + OpenFile + Drop> Keeping<F> {
         let begins = self.logbook.cursor;
         self.logbook.since = begins.offset;
         let directory = DataDirectory::at(rt, path);
-        match directory.create_journal(self.alloc, &begins, keeper.schema()) {
+        let key = self.logbook.journal.key();
+        match directory.create_journal(self.alloc, &begins, keeper.schema(), key) {
             Ok(journal) => {
                 self.logbook.journal = journal;
                 self.logbook.name = FileName::Journal(begins.offset);
@@ -288,7 +290,26 @@ impl<F: Write + Seek + OpenFile + Drop> Keeping<F> {
         Ok(())
     }
 
-    /// Posts the numbers as they stand, then takes, commits and answers what is waiting.
+    /// Writes a witness behind the last batch, if none is there yet: it shows a later start that the
+    /// batch was synced. If that can't be written now, it is tried again.
+    fn witness(&mut self) -> Result<(), BatchFault> {
+        let logbook = &mut self.logbook;
+        if !self.is_saved || !logbook.lacks_witness() {
+            return Ok(());
+        }
+        let witnessed = match commit(&mut logbook.journal, &mut logbook.cursor, &[]) {
+            Ok(()) => Ok(()),
+            Err(fault) => Err(ChangesFault::from(fault)),
+        };
+        if is_written(witnessed)? {
+            logbook.witnessed = logbook.cursor.offset;
+            self.shared.is_synced_to(logbook.cursor.offset);
+        }
+        Ok(())
+    }
+
+    /// Posts the numbers as they stand, then takes, commits and answers what is waiting. If nothing
+    /// comes within a second, the last batch gets its witness.
     fn round<C: Clock, R: Files<File = F> + Eprint + Wait + time::Clock>(
         &mut self,
         rt: &R,
@@ -319,6 +340,8 @@ impl<F: Write + Seek + OpenFile + Drop> Keeping<F> {
         let is_behind = !self.is_saved || self.shared.is_without_origin.is_raised();
         if has_more || !items.is_empty() || is_behind {
             self.take(rt, path, keeper, clock, items)?;
+        } else {
+            self.witness()?;
         }
         self.settle(rt)?;
         self.note_checkpoint(rt);

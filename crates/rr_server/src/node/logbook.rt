@@ -26,6 +26,8 @@ pub(crate) struct Logbook<F> {
     pub(crate) checkpoint: u64,
     /// Whether a checkpoint is under way.
     pub(crate) is_asked: bool,
+    /// The offset behind the last witness that was written because nothing else was; 0 if none was.
+    pub(crate) witnessed: u64,
 }
 
 impl<F> Logbook<F> {
@@ -33,6 +35,12 @@ impl<F> Logbook<F> {
     pub(crate) fn is_due(&self) -> bool {
         let journal = self.cursor.offset.saturating_sub(self.since);
         !self.is_asked && is_due(journal, self.checkpoint)
+    }
+
+    /// Whether something was written behind the last witness, so that nothing shows yet that it is
+    /// synced.
+    pub(crate) fn lacks_witness(&self) -> bool {
+        self.cursor.offset != self.witnessed
     }
 }
 

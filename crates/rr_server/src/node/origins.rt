@@ -134,7 +134,11 @@ pub(crate) fn own_origins<R: AllocGlobal + Files + Eprint>(
     config: &NodeConfig,
 ) -> Result<OwnOrigins, Ending> {
     let last = last_taken(rt, directory, files, schema)?;
-    match config.origins.next_after(last) {
+    let next = match &last {
+        Some(last) => config.origins.next_after(Some(*last)),
+        None => config.origins.next_after(None),
+    };
+    match next {
         Some(next) => Ok(OwnOrigins {
             last,
             next,

@@ -11,8 +11,8 @@ use rr_batch::commit_origin;
 use rr_commit::ChangesFault;
 use rr_config::NodeConfig;
 use rr_directory::{Directory, FileName, Recovered, Start, empty_replica, recover, start_of};
-use rr_files::{DataDirectory, DirectoryLock, JournalFile, OpenFault, TryLock};
-use rr_journal::{Cursor, ID_LEN};
+use rr_files::{DataDirectory, DirectoryLock, JournalFile, OpenFault, TryLock, key_in};
+use rr_journal::{Cursor, ID_LEN, KEY_LEN, Key};
 use rr_packed::PackedArchive;
 use rr_process::{Ending, ToolFault};
 use rr_replica::Replica;
@@ -103,7 +103,11 @@ fn recovered<R: AllocGlobal + Files + Eprint>(
     let Ok(mut replica) = empty_replica(alloc, schema, origin) else {
         return Err(OUT_OF_MEMORY);
     };
-    match recover(alloc, directory, files, schema, &mut replica) {
+    let key = match key_in(rt, alloc, path) {
+        Ok(key) => key,
+        Err(error) => return Err(failed(rt, path, &error)),
+    };
+    match recover(alloc, directory, files, schema, key, &mut replica) {
         Ok(recovered) => {
             replica.finish_all_rows();
             tell_torn(rt, path, recovered.torn);
@@ -123,8 +127,15 @@ fn new_cursor<R: RandomSource>(rt: &R, offset: u64) -> io::Result<Cursor> {
     })
 }
 
+/// A key for a directory's witnesses.
+fn new_key<R: RandomSource>(rt: &R) -> io::Result<Key> {
+    let mut bytes = [0u8; KEY_LEN];
+    rt.fill_bytes(&mut bytes)?;
+    Ok(Key { bytes })
+}
+
 /// The journal's last file, to go on after what was read of it, or a first one; its name; and the
-/// journal's end.
+/// journal's end. A directory without a key of its witnesses gets one.
 fn open_journal<R: AllocGlobal + Files + RandomSource>(
     rt: &R,
     directory: &DataDirectory<'_, R>,
@@ -133,16 +144,17 @@ fn open_journal<R: AllocGlobal + Files + RandomSource>(
     config: &NodeConfig,
 ) -> io::Result<(JournalFile<R::File>, FileName, Cursor)> {
     let alloc = rt.alloc();
+    let key = directory.key_or(alloc, new_key(rt)?)?;
     let cursor = match recovered.end {
         Some(end) => end,
         None => new_cursor(rt, 0)?,
     };
     if let Some(FileName::Journal(offset)) = files.last() {
         let name = FileName::Journal(*offset);
-        let journal = directory.open_journal(alloc, name, recovered.torn)?;
+        let journal = directory.open_journal(alloc, name, recovered.torn, key)?;
         return Ok((journal, name, cursor));
     }
-    let journal = directory.create_journal(alloc, &cursor, &config.schema)?;
+    let journal = directory.create_journal(alloc, &cursor, &config.schema, key)?;
     Ok((journal, FileName::Journal(cursor.offset), cursor))
 }
 
@@ -308,6 +320,7 @@ fn begun<R: AllocGlobal + Files + Eprint + RandomSource>(
         since,
         checkpoint,
         is_asked: false,
+        witnessed: 0,
     })
 }
 
