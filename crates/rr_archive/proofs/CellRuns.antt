@@ -1,5 +1,5 @@
 -- The cells of slots that follow one another: each but the last is followed by the next one of all.
-use Rattle.std.proofs.Common.{◌≡◌, ℕ, zero, suc, ◌+◌, ℤ, pos, ◌+ℤ◌, Bool, true, false, cond, ◌&&◌, T, List, [], ◌∷◌, ◌++◌, map, slice_get, refl, sym, ap, ◌∙◌, subst, Option, Some, None, unwrap_or, int_cmp, arith, true≢false, Ordering, Less, Equal, Greater}
+use Rattle.std.proofs.Common.{◌≡◌, ℕ, zero, suc, ◌+◌, ℤ, pos, ◌+ℤ◌, Bool, true, false, cond, ◌&&◌, T, List, [], ◌∷◌, ◌++◌, map, length, slice_get, refl, sym, ap, ◌∙◌, subst, Option, Some, None, unwrap_or, int_cmp, arith, true≢false, Ordering, Less, Equal, Greater}
 use Rattle.std.specs.Prelude.{int_lt, int_le}
 use Rattle.std.specs.List.{filter, find}
 use Rattle.std.specs.Cmp.{tied_itself}
@@ -8,7 +8,7 @@ use Rattle.std.specs.Ordering.{is_lt, int_eq, nat_cmp, ordering_then, ordering_r
 use Rattle.std.specs.FinMap.{entries, entries_sorted, is_sorted}
 use Rattle.std.specs.FinMap.Entries.{below_all}
 use Rattle.std.proofs.lemmas.Int.{ints}
-use Rattle.std.proofs.lemmas.List.{append-nil}
+use Rattle.std.proofs.lemmas.List.{append-nil, length-map}
 use Rattle.rr_join.proofs.Booleans.{first_T, second_T, T_and, true_from_T}
 use Rattle.rr_contrib.specs.declared.contribution.Contribution.{Contribution}
 use Rattle.rr_archive.specs.declared.entry.Entry.{Entry}
@@ -20,6 +20,9 @@ use Rattle.rr_archive.proofs.RowCells.{at_slot, is_past}
 pub one_slot : (m : ArchiveCells) (slot : ℤ) → cells_on m slot 1 ≡ map (λ e. (slot, e)) (row_of m slot)
 unfolding cells_on
 one_slot m slot = append-nil (map (λ e. (slot, e)) (row_of m slot))
+
+pub one_slot_length : (m : ArchiveCells) (slot : ℤ) → length (cells_on m slot 1) ≡ length (row_of m slot)
+one_slot_length m slot = ap length (one_slot m slot) ∙ length-map (row_of m slot) (λ (e : Entry). (slot, e))
 
 abbrev Listing : Type 0
 Listing = List (CellSlot × Contribution)

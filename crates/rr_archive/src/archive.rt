@@ -126,12 +126,17 @@ pub trait Cells: Drop {
 
     /// Replaces a list with the cells of a run of slots from one on, in order, and returns how many
     /// slots the run has: as many as cost little to read together, so that whoever reads rows one
-    /// after another asks once for many. After an error the list may have anything. The cost is
-    /// that of `entries_into`, and linear in the slots and the cells of the run.
+    /// after another asks once for many. An error leaves the list empty; there is none if it has
+    /// room for the cells of each run from the slot on. The cost is that of `entries_into`, and
+    /// linear in the slots and the cells of the run.
     fn cells_into(&self, slot: i64, run: &mut Vec<(i64, Entry)>) -> Result<u32, AllocError>
         ensures some { IfOk result (λ slots. 1 ≤ slots) }
         ensures written { IfOk result
-            (λ slots. run.new.items ≡ cells_on (cells self.now) slot slots) };
+            (λ slots. run.new.items ≡ cells_on (cells self.now) slot slots) }
+        ensures emptied { OnErr result (run.new.items ≡ []) }
+        ensures room { ((slots : ℕ)
+            → length (cells_on (cells self.now) slot slots) ≤ vec_capacity run.old)
+            → IsOk result };
 
     /// How many cells there are. The cost is at most linear in the rows.
     fn cell_count(&self) -> usize

@@ -96,7 +96,10 @@ impl Cells for PlainArchive {
 
     fn cells_into(&self, slot: i64, run: &mut Vec<(i64, Entry)>) -> Result<u32, AllocError> {
         run.clear();
-        push_cells(run, slot, self.row(slot))?;
+        if let Err(error) = push_cells(run, slot, self.row(slot)) {
+            run.clear();
+            return Err(error);
+        }
         Ok(1)
     }
 

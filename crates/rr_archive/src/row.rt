@@ -1,5 +1,5 @@
 //! The entries of one row, ascending by origin.
-ghost use Rattle.std.specs.Prelude.{◌≡◌, ◌++◌, map, is_none, IfOk, OnOk};
+ghost use Rattle.std.specs.Prelude.{◌≡◌, ◌+◌, ◌++◌, ◌≤◌, map, length, is_none, vec_capacity, IfOk, IsOk, OnOk};
 ghost use Rattle.std.specs.List.{find, position_from};
 ghost use Rattle.rr_archive.specs.Row.{entry_at, is_from, is_after};
 ghost use Rattle.rr_archive.specs.Changes.{Fits, entry_after};
@@ -43,10 +43,13 @@ pub fn first_after(row: &[Entry], is_later: bool, origin: Origin) -> Option<Entr
         .copied()
 }
 
-/// Adds the entries of a row to a list of cells, each with its slot.
+/// Adds the entries of a row to a list of cells, each with its slot. If the list has room for them,
+/// it can't fail.
 pub fn push_cells(cells: &mut Vec<(i64, Entry)>, slot: i64, row: &[Entry]) -> Result<(), AllocError>
-    ensures { OnOk result
+    ensures added { OnOk result
         (cells.new.items ≡ cells.old.items ++ map (λ e. (slot, e)) row.now) }
+    ensures capacity { vec_capacity cells.old ≤ vec_capacity cells.new }
+    ensures room { length cells.old.items + length row.now ≤ vec_capacity cells.old → IsOk result }
 {
     for entry in row {
         cells.push((slot, *entry))?;

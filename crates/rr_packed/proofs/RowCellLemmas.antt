@@ -1,10 +1,10 @@
 -- The cells of rows in order: those of one row, those from a row on, and how many there are.
-use Rattle.std.proofs.Common.{◌≡◌, ℕ, zero, suc, ◌+◌, ◌<◌, ℤ, pos, ◌+ℤ◌, ◌≤ℤ◌, ◌<ℤ◌, Bool, true, false, cond, not, ◌&&◌, List, [], ◌∷◌, ◌++◌, map, refl, sym, ap, ◌∙◌, arith, append_assoc}
+use Rattle.std.proofs.Common.{◌≡◌, ℕ, zero, suc, ◌+◌, ◌-◌, ◌<◌, ◌≤◌, ℤ, pos, ◌+ℤ◌, ◌≤ℤ◌, ◌<ℤ◌, Bool, true, false, cond, not, ◌&&◌, List, [], ◌∷◌, ◌++◌, map, length, refl, sym, ap, ◌∙◌, arith, append_assoc}
 use Rattle.std.specs.Prelude.{int_lt}
 use Rattle.std.specs.List.{filter}
 use Rattle.std.specs.Ordering.{int_eq}
 use Rattle.std.proofs.lemmas.Bool.{and_parts, and_from}
-use Rattle.std.proofs.lemmas.List.{append-nil}
+use Rattle.std.proofs.lemmas.List.{append-nil, length-append}
 use Rattle.std.proofs.lemmas.Int.{ints}
 use Rattle.rr_archive.specs.declared.entry.Entry.{Entry}
 use Rattle.rr_codec.specs.Fields.{SlotEntry}
@@ -51,6 +51,18 @@ rows_split f s (suc n) m =
     further : (z : ℤ) (n : ℕ) → (z +ℤ pos 1) +ℤ pos n ≡ z +ℤ pos (suc n)
     further z n = omega (arith, ints)
 
+-- fewer rows have at most as many
+pub rows_at_most : (f : ℕ → List Entry) (s : ℤ) (n m : ℕ) → n ≤ m
+    → length (cells_of_rows f s n) ≤ length (cells_of_rows f s m)
+rows_at_most f s n m le =
+    let parts = ap (λ k. length (cells_of_rows f s k)) (all n m le)
+    ∙ ap length (rows_split f s n (m - n))
+    ∙ length-append (cells_of_rows f s n) (cells_of_rows (λ i. f (n + i)) (s +ℤ pos n) (m - n)) in
+    omega arith
+  where
+    all : (n m : ℕ) → n ≤ m → m ≡ n + (m - n)
+    all n m le = omega arith
+
 -- with one row more
 pub rows_more : (f : ℕ → List Entry) (s : ℤ) (n : ℕ)
     → cells_of_rows f s (n + 1) ≡ cells_of_rows f s n ++ row_cells (s +ℤ pos n) (f n)
@@ -64,6 +76,17 @@ rows_more f s n =
   where
     none : (k : ℕ) → k + 0 ≡ k
     none k = omega arith
+
+pub length_more : (f : ℕ → List Entry) (s : ℤ) (n : ℕ)
+    → length (cells_of_rows f s (n + 1)) ≡ length (cells_of_rows f s n) + length (f n)
+length_more f s n =
+    ap length (rows_more f s n)
+    ∙ length-append (cells_of_rows f s n) (row_cells (s +ℤ pos n) (f n))
+    ∙ ap (λ k. length (cells_of_rows f s n) + k) (row_length (s +ℤ pos n) (f n))
+  where
+    row_length : (slot : ℤ) (row : List Entry) → length (row_cells slot row) ≡ length row
+    row_length slot [] = refl
+    row_length slot (e ∷ es) = ap suc (row_length slot es)
 
 -- ---- the entries of a row among cells
 

@@ -1,5 +1,5 @@
 -- The cells of the rows from one on, moved to a slot.
-use Rattle.std.proofs.Common.{◌≡◌, ℕ, zero, suc, ◌+◌, ◌-◌, ◌<◌, ◌≤◌, ℤ, pos, ◌+ℤ◌, ◌-ℤ◌, ◌≤ℤ◌, Bool, true, false, cond, List, [], ◌∷◌, ◌++◌, refl, sym, ap, ◌∙◌, append_assoc, FitsSigned, to_z, of_z, w64, arith}
+use Rattle.std.proofs.Common.{◌≡◌, ℕ, zero, suc, ◌+◌, ◌-◌, ◌<◌, ◌≤◌, ℤ, pos, ◌+ℤ◌, ◌-ℤ◌, ◌≤ℤ◌, Bool, true, false, cond, List, [], ◌∷◌, ◌++◌, length, refl, sym, ap, ◌∙◌, append_assoc, FitsSigned, to_z, of_z, w64, arith}
 use Rattle.std.specs.Prelude.{int_lt}
 use Rattle.std.proofs.lemmas.Int.{ints}
 use Rattle.std.proofs.Math.Facts.{to_z-of_z}
@@ -125,6 +125,17 @@ module _ (first : ℕ) (slot : ℤ) where
       ∙ ap (λ l. run ++ l) (ap (λ z. (z, e) ∷ moved_to first slot rest) there
       ∙ sym (moved_one (pos row, e) rest (not_below row first from))
       ∙ ap (moved_to first slot) (sym is))
+    where
+      not_below : (row first : ℕ) → first ≤ row → int_lt (pos row) (pos first) ≡ false
+      not_below row first h = grind (arith, ints)
+
+  -- a cell of a row from it on is left to be moved
+  pub one_left : (cs rest : List SlotEntry) (row : ℕ) (e : Entry) → first ≤ row
+      → cs ≡ (pos row, e) ∷ rest → 1 ≤ length (moved_to first slot cs)
+  one_left cs rest row e from is =
+      let more = ap (λ l. length (moved_to first slot l)) is
+      ∙ ap length (moved_one (pos row, e) rest (not_below row first from)) in
+      omega arith
     where
       not_below : (row first : ℕ) → first ≤ row → int_lt (pos row) (pos first) ≡ false
       not_below row first h = grind (arith, ints)

@@ -1,5 +1,5 @@
 //! What blocks store for a slot, and for those after it.
-ghost use Rattle.std.specs.Prelude.{◌≡◌, ◌+◌, ◌++◌, ◌≤◌, ◌+ℤ◌, ◌≤ℤ◌, pos, length, slice_get, vec_capacity, IfOk, IsOk, OnOk};
+ghost use Rattle.std.specs.Prelude.{◌≡◌, ◌+◌, ◌++◌, ◌≤◌, ◌+ℤ◌, ◌≤ℤ◌, ℕ, pos, length, slice_get, vec_capacity, IfOk, IsOk, OnOk};
 ghost use Rattle.std.specs.List.{find};
 ghost use Rattle.std.specs.Option.{option_map};
 ghost use Rattle.rr_text.specs.declared.limits.TheConstants.{MAX_SECOND};
@@ -72,7 +72,8 @@ impl Blocks {
     }
 
     /// Adds the cells of a run of slots from `slot` on to a list, and returns how many slots the
-    /// run has: the rest of a block, or slots that store nothing.
+    /// run has: the rest of a block, or slots that store nothing. If the list has room for the
+    /// cells of each run from `slot` on, it can't fail.
     pub(crate) fn cells_into(
         &self,
         slot: i64,
@@ -82,6 +83,9 @@ impl Blocks {
         ensures some { IfOk result (λ slots. 1 ≤ slots) }
         ensures added { IfOk result (λ slots. run.new.items ≡ run.old.items
             ++ cells_of_rows (λ i. row_at self.now (slot +ℤ pos i)) slot slots) }
+        ensures room { ((slots : ℕ) → length run.old.items + length (cells_of_rows
+            (λ i. row_at self.now (slot +ℤ pos i)) slot slots) ≤ vec_capacity run.old)
+            → IsOk result }
     {
         let number = block_of(slot);
         let row = row_of(slot);

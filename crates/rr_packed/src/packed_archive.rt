@@ -168,7 +168,11 @@ impl Cells for PackedArchive {
         if newest < slot || !is_live(self.rows, self.newest, slot) {
             return Ok(1);
         }
-        self.blocks.cells_into(slot, run)
+        let read = self.blocks.cells_into(slot, run);
+        if read.is_err() {
+            run.clear();
+        }
+        read
     }
 
     fn cell_count(&self) -> usize {

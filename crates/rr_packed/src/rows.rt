@@ -33,7 +33,8 @@ pub(crate) trait Rows {
     fn nth(&self, number: RowNumber, i: usize) -> Option<Entry>
         ensures { result ≡ slice_get (items self.now number.value) i };
 
-    /// Adds the cells of the rows from `first` on to a list, in the slots from `slot` on.
+    /// Adds the cells of the rows from `first` on to a list, in the slots from `slot` on. If the
+    /// list has room for them, it can't fail.
     fn cells_into(
         &self,
         first: RowNumber,
@@ -41,8 +42,11 @@ pub(crate) trait Rows {
         run: &mut Vec<(i64, Entry)>,
     ) -> Result<(), AllocError>
         requires { slot ≤ℤ pos MAX_SECOND }
-        ensures { OnOk result (run.new.items ≡ run.old.items
-            ++ cells_of_rows (λ i. items self.now (first.value + i)) slot (64 - first.value)) };
+        ensures added { OnOk result (run.new.items ≡ run.old.items
+            ++ cells_of_rows (λ i. items self.now (first.value + i)) slot (64 - first.value)) }
+        ensures room { length run.old.items + length (cells_of_rows
+            (λ i. items self.now (first.value + i)) slot (64 - first.value))
+            ≤ vec_capacity run.old → IsOk result };
 
     /// The distance from a number to the next that has a row, or to the end of the block: those
     /// between have no entry. The cost is constant.

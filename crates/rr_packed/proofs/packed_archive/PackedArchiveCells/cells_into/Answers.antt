@@ -1,4 +1,4 @@
-use Rattle.std.proofs.Common.{rules, ◌≡◌, ℕ, ℤ, ◌≤ℤ◌, true, false, pos, ◌+ℤ◌, [], ◌++◌, sym, ap, ◌∙◌, arith, to_z, of_z, w64}
+use Rattle.std.proofs.Common.{rules, ◌≡◌, ℕ, ℤ, ◌≤ℤ◌, length, true, false, pos, ◌+ℤ◌, [], ◌++◌, sym, ap, ◌∙◌, arith, to_z, of_z, w64}
 use Rattle.std.specs.Prelude.{int_lt}
 use Rattle.std.proofs.lemmas.Int.{ints}
 use Rattle.std.proofs.lemmas.Result.{IfOk-weaker}
@@ -33,8 +33,8 @@ returns-then-newest-slot-clause-written c =
           run_dead a.rows a.newest f a.held.ascend a.held.none_later c.args.slot dead
     ])
 
-pub cells_into-requires : goal.cells_into-requires
-cells_into-requires c =
+pub cells_into-read-requires : goal.cells_into-read-requires
+cells_into-read-requires c =
     let slot : to_z w64 (of_z w64 c.args.slot) ≡ c.args.slot = search rules in
     let top = c.args.self.now.held.is_slot c.in-Some.newest c.in-Some.is in
     let near : c.args.slot ≤ℤ c.in-Some.newest = search rules in
@@ -43,18 +43,33 @@ cells_into-requires c =
     within : (slot top : ℤ) (most : ℕ) → slot ≤ℤ top → top ≤ℤ pos most → slot ≤ℤ pos most
     within slot top most near h = omega (arith, ints)
 
-pub returns-clause-written : goal.returns-clause-written
-returns-clause-written c =
+pub returns-then-is_err-clause-room : goal.returns-then-is_err-clause-room
+returns-then-is_err-clause-room c = λ room.
+    let a = c.args.self.now in
+    let f = row_at a.blocks in
+    let slot : to_z w64 (of_z w64 c.args.slot) ≡ c.args.slot = search rules in
+    let live : is_above a.rows a.newest c.args.slot ≡ true = search rules in
+    let none : length c.clear.new.self.items ≡ 0 = search rules in
+    let capacity = c.clear.ensures.capacity in
+    (rw slot at c.cells_into-read.ensures.room) (λ slots.
+    let fits = room slots in
+    let same : length (cells_on (cells_by a.rows a.newest f) c.args.slot slots)
+    ≡ length (cells_of_rows (λ i. f (c.args.slot +ℤ pos i)) c.args.slot slots) =
+    ap length (run_live a.rows a.newest f a.held.ascend a.held.none_later c.args.slot slots live) in
+    omega arith)
+
+pub returns-else-is_err-clause-written : goal.returns-else-is_err-clause-written
+returns-else-is_err-clause-written c =
     let a = c.args.self.now in
     let f = row_at a.blocks in
     let slot : to_z w64 (of_z w64 c.args.slot) ≡ c.args.slot = search rules in
     let live : is_above a.rows a.newest c.args.slot ≡ true = search rules in
     let none : c.clear.new.self.items ≡ [] = search rules in
-    IfOk-weaker c.cells_into.result
-    (λ slots. c.cells_into.new.run.items ≡ c.clear.new.self.items
+    IfOk-weaker c.cells_into-read.result
+    (λ slots. c.cells_into-read.new.run.items ≡ c.clear.new.self.items
     ++ cells_of_rows (λ i. f (c.args.slot +ℤ pos i)) c.args.slot slots)
-    (λ slots. c.cells_into.new.run.items ≡ cells_on (cells_by a.rows a.newest f) c.args.slot slots)
+    (λ slots. c.cells_into-read.new.run.items ≡ cells_on (cells_by a.rows a.newest f) c.args.slot slots)
     (λ slots added. added
     ∙ ap (λ cells. cells ++ cells_of_rows (λ i. f (c.args.slot +ℤ pos i)) c.args.slot slots) none
     ∙ sym (run_live a.rows a.newest f a.held.ascend a.held.none_later c.args.slot slots live))
-    (rw slot at c.cells_into.ensures.added)
+    (rw slot at c.cells_into-read.ensures.added)
