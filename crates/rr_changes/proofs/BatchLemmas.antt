@@ -1,23 +1,16 @@
 -- Batches of changes, each after the one before.
-use Rattle.std.proofs.Common.{◌≡◌, ℕ, zero, suc, ◌<◌, ◌≤◌, Bool, true, false, T, List, [], ◌∷◌, ◌++◌, fold, length, take, refl, sym, ap, ◌∙◌, subst, arith, Option, Some, None}
-use Rattle.std.specs.Prelude.{nat_lt, MatchBool}
-use Rattle.std.specs.List.{flat_map}
-use Rattle.std.specs.FinMap.{entries, entries_sorted, is_sorted}
+use Rattle.std.proofs.Common.{◌≡◌, ℕ, zero, suc, ◌<◌, ◌≤◌, true, T, List, [], ◌∷◌, ◌++◌, length, take, refl, sym, ap, ◌∙◌, subst, arith, Option, Some, None}
+use Rattle.std.specs.Prelude.{nat_lt}
+use Rattle.std.specs.FinMap.{is_sorted}
 use Rattle.std.proofs.lemmas.Bool.Decides.{nat_tests}
-use Rattle.std.proofs.lemmas.List.{append-nil, length-take}
-use Rattle.rr_join.proofs.Booleans.{T_from_true, true_from_T}
+use Rattle.std.proofs.lemmas.List.{length-take}
 use Rattle.rr_cells.specs.CellNames.{CellName, cell_name_cmp}
 use Rattle.rr_cells.specs.CellBounds.{NamedCell}
-use Rattle.rr_cells.specs.Joins.{join_cells}
 use Rattle.rr_cells.specs.Listing.{first_after}
-use Rattle.rr_cells.specs.Operations.{step}
 use Rattle.rr_replica.proofs.Counted.{take_all}
 use Rattle.rr_delta.specs.Summaries.{cells_after, cells_from}
-use Rattle.rr_delta.proofs.Walks.{sorted_filter, walked_on, walked_to}
-use Rattle.rr_changes.specs.Changes.{AreBatches, changes_among, is_within, last_name, next_of}
-use Rattle.rr_changes.specs.ChangeLaws.{BatchesAreTheWhole, BatchesMakeTheCells, TrackedChangesMakeTheCells}
-use Rattle.rr_changes.proofs.CoveredLemmas.{covered_cells_make_the_cells}
-use Rattle.rr_changes.proofs.TrackingLemmas.{tracked_operations_are_covered}
+use Rattle.rr_delta.proofs.Walks.{walked_on, walked_to}
+use Rattle.rr_changes.specs.Changes.{last_name, next_of}
 
 -- after the first of the cells after a name are the others of them
 after_next : (after : Option CellName) (es : List NamedCell) (x : NamedCell) (xs : List NamedCell)
@@ -59,37 +52,3 @@ all_few limit after es t =
   where
     short : (l : List NamedCell) → length (take limit l) < limit → length l ≤ limit
     short l few = omega (arith, length-take limit l)
-
--- a batch and those after it, where these are the cells after it
-with_batch : (limit : ℕ) (after : Option CellName) (es b : List NamedCell) (batches : List (List NamedCell))
-    → T (is_sorted cell_name_cmp es) → b ≡ next_of limit after es → (c : Bool) → nat_lt (length b) limit ≡ c
-    → MatchBool c (batches ≡ []) (AreBatches limit (last_name after b) es batches)
-    → (AreBatches limit (last_name after b) es batches
-    → flat_map (λ b. b) batches ≡ cells_after (last_name after b) es)
-    → b ++ flat_map (λ b. b) batches ≡ cells_after after es
-with_batch limit after es b batches sorted is true t last later =
-    ap (λ (bs : List (List NamedCell)). b ++ flat_map (λ b. b) bs) last ∙ append-nil b ∙ is
-    ∙ all_few limit after es (ap (λ (l : List NamedCell). nat_lt (length l) limit) (sym is) ∙ t)
-with_batch limit after es b batches sorted is false t more later =
-    ap (λ l. b ++ l) (later more)
-    ∙ ap (λ (l : List NamedCell). l ++ cells_after (last_name after l) es) is
-    ∙ sym (part_more limit after es sorted)
-
-pub batches_are_the_whole : BatchesAreTheWhole
-batches_are_the_whole limit after es [] sorted are = absurd are
-batches_are_the_whole limit after es (b ∷ batches) sorted are =
-    with_batch limit after es b batches (T_from_true _ sorted) are.0 (nat_lt (length b) limit) refl are.1
-    (batches_are_the_whole limit (last_name after b) es batches sorted)
-
-pub batches_make_the_cells : BatchesMakeTheCells
-batches_make_the_cells h ops series limit batches goes covered are =
-    let m = (fold step h ops).cells in
-    let es = changes_among h.schema series (entries m) in
-    ap (join_cells h.schema h.cells) (batches_are_the_whole limit None es batches
-    (true_from_T _ (sorted_filter (λ e. is_within h.schema series e.0) (entries m) (entries_sorted m))) are)
-    ∙ covered_cells_make_the_cells h ops series goes covered
-
-pub tracked_changes_make_the_cells : TrackedChangesMakeTheCells
-tracked_changes_make_the_cells h ops keys c series limit batches goes tracked are batch =
-    batches_make_the_cells h ops series limit batches goes
-    (tracked_operations_are_covered keys c series h ops are tracked) batch

@@ -58,7 +58,7 @@ own_held s is m n c kept there = subst (λ (y : Cells). Holds s y (one (n, c)))
     (each_held s is (entries m) m (n, c) kept (among_entries m n c there))
 
 -- each entry is a cell of its map
-entries_there : (m : Cells) → All (λ e. get m e.0 ≡ Some e.1) (entries m)
+pub entries_there : (m : Cells) → All (λ e. get m e.0 ≡ Some e.1) (entries m)
 entries_there m = All-from_recursion (λ e. get m e.0 ≡ Some e.1) (entries m)
     (all_entries (λ e. get m e.0 ≡ Some e.1) m (λ n c h. h))
 
@@ -70,7 +70,7 @@ kept_later : (f e : NamedCell) (xs : List NamedCell) (b : Bool) → Contains xs 
 kept_later f e xs true has = among_later f xs e has
 kept_later f e xs false has = has
 
-among_filter : (test : NamedCell → Bool) (es : List NamedCell) (e : NamedCell) → test e ≡ true → Contains es e
+pub among_filter : (test : NamedCell → Bool) (es : List NamedCell) (e : NamedCell) → test e ≡ true → Contains es e
     → Contains (filter test es) e
 among_filter test [] e passes has = absurd (nowhere e has)
 among_filter test (f ∷ es) e passes has = ⊎_elim

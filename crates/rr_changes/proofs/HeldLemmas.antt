@@ -14,7 +14,6 @@ use Rattle.rr_schema.specs.Origin.{IsOrigin}
 use Rattle.rr_schema.specs.Schema.{Layout}
 use Rattle.rr_join.proofs.Booleans.{first_T, second_T, true_from_T}
 use Rattle.rr_contrib.specs.declared.contribution.Contribution.{Contribution}
-use Rattle.rr_cells.specs.declared.cell.Cell.{Cell}
 use Rattle.rr_cells.specs.declared.op.Op.TheVariants.{Join}
 use Rattle.rr_cells.specs.CellNames.{CellName, cell_name_cmp}
 use Rattle.rr_cells.specs.CellBounds.{IsCellOf, NamedCell}
@@ -27,7 +26,7 @@ use Rattle.rr_cells.proofs.Orders.{cell_name_cmp_total}
 use Rattle.rr_replica.proofs.NextCell.{is_past}
 use Rattle.rr_delta.proofs.Walks.{before_both}
 use Rattle.rr_changes.specs.Held.{at_name, before_of}
-use Rattle.rr_changes.specs.Updates.{GoesOn, is_at_least, is_held}
+use Rattle.rr_changes.specs.Updates.{is_at_least, is_held}
 use Rattle.rr_changes.specs.UpdateLaws.{HeldCellsChangeNothing}
 use Rattle.rr_changes.proofs.HoldingLemmas.{join_held_cell}
 

@@ -3,11 +3,11 @@ pub mod HeldLemmas
 pub mod AddingLemmas
 pub mod CoveredLemmas
 pub mod TrackingLemmas
-pub mod KeyedLemmas
+pub mod NumberedLemmas
 pub mod PastLemmas
 pub mod CheckpointLemmas
-pub mod FilterLemmas
 pub mod SlotLemmas
-pub mod WithinLemmas
 pub mod BatchLemmas
+pub mod RangeLemmas
+pub mod ListedLemmas
 pub mod WalkingLemmas

@@ -299,9 +299,10 @@ tracked_operations_are_covered keys c series h ops are all = go ops h all
   where
     one : (op : Op) → IsTracked keys c op → is_covered series op ≡ true
     one op is =
-        let own : ChangedSeries = record { key = op_key op; times = times_of c is.number } in
+        let own : ChangedSeries = record { number = is.number; key = op_key op; times = times_of c is.number } in
         found (λ x. is_op_in x op) series own
         (are.whole is.number own (record {
+          number = refl;
           key = is.key;
           here = refl;
           moved = changed_there (times_of c is.number) (op_time op) is.time;

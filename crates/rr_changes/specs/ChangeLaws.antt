@@ -1,21 +1,20 @@
 -- The laws of ranges and of the changes within them, each the contract of a function of `src/laws.rt`.
-use Rattle.std.specs.Prelude.{◌≡◌, ◌≢◌, ◌++◌, ◌∷◌, [], true, ℕ, ℤ, IsTrue, List, fold, slice_get, Some, None, Option}
+use Rattle.std.specs.Prelude.{All, Contains, ◌≡◌, ◌≢◌, ◌++◌, ◌∷◌, [], true, ℕ, ℤ, List, fold, slice_get, Some}
 use mathlib.Core.List.{IsPrefix}
-use Rattle.std.specs.FinMap.{entries, is_sorted, retain_keys}
-use Rattle.std.specs.List.{flat_map}
+use Rattle.std.specs.FinMap.{entries, retain_keys}
+use Rattle.rr_schema.specs.Schema.{Layout}
+use Rattle.rr_cells.specs.Cells.{Cells}
 use Rattle.rr_cells.specs.declared.op.Op.{Op}
-use Rattle.rr_cells.specs.CellNames.{CellName, cell_name_cmp}
-use Rattle.rr_cells.specs.CellBounds.{NamedCell}
 use Rattle.rr_cells.specs.Joins.{join_cells}
 use Rattle.rr_cells.specs.ReplicaState.{ReplicaState}
 use Rattle.rr_cells.specs.Operations.{op_key, step}
-use Rattle.rr_delta.specs.Summaries.{cells_after}
 use Rattle.rr_changes.specs.declared.changed_series.ChangedSeries.{ChangedSeries}
 use Rattle.rr_changes.specs.declared.time_range.ChangeTimes.{ChangeTimes}
 use Rattle.rr_changes.specs.Updates.{AreWrites, GoesOn, IsUpdate, op_time}
 use Rattle.rr_changes.specs.ChangeTimes.{is_in_times, with_time}
 use Rattle.rr_changes.specs.Tracking.{ChangedState, AreChangedSeries, AreTracked, times_of}
-use Rattle.rr_changes.specs.Changes.{AreBatches, AreCovered, ArePeriods, Period, changes_among, is_within, writes_of}
+use Rattle.rr_changes.specs.Changes.{AreCovered, ArePeriods, HasArchivesOf, Period, changes_among, is_within, writes_of}
+use Rattle.rr_changes.specs.Listing.{changes_of_all}
 
 -- ---- ranges
 
@@ -74,26 +73,24 @@ abbrev pub PeriodsAreWrites : Type 0
 PeriodsAreWrites = (h : ReplicaState) (periods : List Period) → GoesOn h → ArePeriods h periods
     → AreWrites h.schema h.cells (writes_of h periods)
 
--- batches, each after the one before, make up the whole list
-abbrev pub BatchesAreTheWhole : Type 0
-BatchesAreTheWhole =
-    (limit : ℕ) (after : Option CellName) (es : List NamedCell) (batches : List (List NamedCell))
-    → IsTrue (is_sorted cell_name_cmp es) → AreBatches limit after es batches
-    → flat_map (λ b. b) batches ≡ cells_after after es
+-- listed archive by archive, the changes of these series are the same cells, in another order
+abbrev pub ListedChangesAreTheSame : Type 0
+ListedChangesAreTheSame =
+    (s : Layout) (m : Cells) (series : List ChangedSeries) → HasArchivesOf s m
+    → All (Contains (changes_of_all s m series)) (changes_among s series (entries m))
+    × All (Contains (changes_among s series (entries m))) (changes_of_all s m series)
 
--- so joining all batches to the earlier cells makes the current ones
-abbrev pub BatchesMakeTheCells : Type 0
-BatchesMakeTheCells =
-    (h : ReplicaState) (ops : List Op) (series : List ChangedSeries) (limit : ℕ) (batches : List (List NamedCell))
-    → GoesOn h → AreCovered series h ops
-    → AreBatches limit None (changes_among h.schema series (entries (fold step h ops).cells)) batches
-    → join_cells h.schema h.cells (flat_map (λ b. b) batches) ≡ (fold step h ops).cells
+-- so joining them, one by one, to the earlier cells makes the current ones too
+abbrev pub ListedChangesMakeTheCells : Type 0
+ListedChangesMakeTheCells =
+    (h : ReplicaState) (ops : List Op) (series : List ChangedSeries) → GoesOn h → AreCovered series h ops
+    → HasArchivesOf h.schema (fold step h ops).cells
+    → join_cells h.schema h.cells (changes_of_all h.schema (fold step h ops).cells series) ≡ (fold step h ops).cells
 
--- so it does if each operation since then is tracked, by the number of its series, and these series are asked for
+-- so they do if each operation since then is tracked, by the number of its series, and these series are asked for
 abbrev pub TrackedChangesMakeTheCells : Type 0
 TrackedChangesMakeTheCells =
     (h : ReplicaState) (ops : List Op) (keys : List (List ℕ)) (c : ChangedState) (series : List ChangedSeries)
-    (limit : ℕ)
-    (batches : List (List NamedCell)) → GoesOn h → AreTracked keys c h ops → AreChangedSeries keys c.times series
-    → AreBatches limit None (changes_among h.schema series (entries (fold step h ops).cells)) batches
-    → join_cells h.schema h.cells (flat_map (λ b. b) batches) ≡ (fold step h ops).cells
+    → GoesOn h → AreTracked keys c h ops → AreChangedSeries keys c.times series
+    → HasArchivesOf h.schema (fold step h ops).cells
+    → join_cells h.schema h.cells (changes_of_all h.schema (fold step h ops).cells series) ≡ (fold step h ops).cells

@@ -1,24 +1,22 @@
--- The cells of changed series in the slots of their ranges, a number of them at a time.
-use Rattle.std.specs.Prelude.{◌≡◌, ◌⊎◌, ℕ, ℤ, ◌-◌, int_le, nat_eq, nat_lt, All, Bool, true, false, MatchBool, ◌&&◌, ◌||◌, List, [], ◌∷◌, ◌++◌, fold, length, take, if◌then◌else◌, Option, Some, None}
+-- The cells of changed series in the slots of their ranges.
+use Rattle.std.specs.Prelude.{◌<◌, ◌≡◌, ◌⊎◌, ℕ, ℤ, int_le, nat_eq, Bool, true, ◌&&◌, ◌||◌, List, [], ◌∷◌, fold, length, take, Option, Some}
 use Rattle.std.specs.Borrow.{Bor}
-use Rattle.std.specs.Cmp.Lexicographic.{pointwise, slice_cmp}
-use Rattle.std.specs.FinMap.{retain_keys}
+use Rattle.std.specs.Cmp.Lexicographic.{pointwise}
+use Rattle.std.specs.FinMap.{get, retain_keys}
 use Rattle.std.specs.List.{filter, list_any}
 use Rattle.std.specs.Option.{option_map}
-use Rattle.std.specs.Ordering.{is_gt, is_lt, nat_cmp, int_cmp, ordering_then}
-use Rattle.std.specs.declared.cmp.Ordering.TheVariants.{Less}
-use Rattle.rr_text.specs.Bytes.{bytes_cmp}
 use Rattle.rr_schema.specs.Schema.{Layout, slot_of}
+use Rattle.rr_contrib.specs.declared.contribution.Contribution.{Contribution}
+use Rattle.rr_cells.specs.Cells.{Cells}
 use Rattle.rr_cells.specs.declared.cell.Cell.{Cell}
 use Rattle.rr_cells.specs.declared.op.Op.{Op}
-use Rattle.rr_cells.specs.CellNames.{CellName, is_of}
+use Rattle.rr_cells.specs.CellNames.{CellName}
 use Rattle.rr_cells.specs.CellBounds.{NamedCell}
 use Rattle.rr_cells.specs.Listing.{owned_cell}
 use Rattle.rr_cells.specs.Operations.{op_key, step}
 use Rattle.rr_cells.specs.ReplicaState.{ReplicaState}
 use Rattle.rr_delta.specs.Summaries.{cells_after}
 use Rattle.rr_changes.specs.declared.changed_series.ChangedSeries.{ChangedSeries}
-use Rattle.rr_changes.specs.declared.slots.Slots as source
 use Rattle.rr_changes.specs.declared.time_range.TimeRange.{TimeRange}
 use Rattle.rr_changes.specs.declared.time_range.ChangeTimes.{ChangeTimes}
 use Rattle.rr_changes.specs.ChangeTimes.{is_in_times}
@@ -44,6 +42,10 @@ is_within s series n = list_any (λ own. is_cell_in s own n) series
 -- all such cells among these
 abbrev pub changes_among : Layout → List ChangedSeries → List NamedCell → List NamedCell
 changes_among s series es = filter (λ e. is_within s series e.0) es
+
+-- each cell is of one of the archives of a schema
+abbrev pub HasArchivesOf : Layout → Cells → Type 0
+HasArchivesOf s m = (n : CellName) (c : Contribution) → get m n ≡ Some c → n.archive < length s.archives
 
 -- ---- operations within ranges
 
@@ -95,74 +97,3 @@ next_of limit after es = take limit (cells_after after es)
 abbrev pub last_name : Option CellName → List NamedCell → Option CellName
 last_name other [] = other
 last_name other (e ∷ es) = last_name (Some e.0) es
-
--- the batches of a list: each has what comes next after the batch before, and the last has fewer than the limit
-abbrev pub AreBatches : ℕ → Option CellName → List NamedCell → List (List NamedCell) → Type 0
-AreBatches limit after es [] = ⊥
-AreBatches limit after es (b ∷ batches) =
-    (b ≡ next_of limit after es)
-    × MatchBool (nat_lt (length b) limit) (batches ≡ []) (AreBatches limit (last_name after b) es batches)
-
--- ---- the slots of an archive of a key
-
-pub record Slots : Type 0 where
-  pub key : List ℕ
-  pub archive : ℕ
-  pub first : ℤ
-  pub last : ℤ
-
--- whether a cell is in one of them
-abbrev pub is_in_slots : Slots → NamedCell → Bool
-is_in_slots p e = is_of p.key p.archive e.0 && (int_le p.first e.0.slot && int_le e.0.slot p.last)
-
--- whether a cell comes after all of them
-abbrev pub is_beyond : Slots → NamedCell → Bool
-is_beyond p e = is_gt
-    (ordering_then (slice_cmp nat_cmp e.0.key p.key)
-    (ordering_then (nat_cmp e.0.archive p.archive)
-    (int_cmp e.0.slot p.last)))
-
--- whether a cell comes before all of them
-abbrev pub is_before_slots : Slots → NamedCell → Bool
-is_before_slots p e = is_lt
-    (ordering_then (slice_cmp nat_cmp e.0.key p.key)
-    (ordering_then (nat_cmp e.0.archive p.archive)
-    (int_cmp e.0.slot p.first)))
-
--- a cell, if it is in one of them
-abbrev pub if_in_slots : Slots → NamedCell → List NamedCell
-if_in_slots p e = if is_in_slots p e then e ∷ [] else []
-
--- the slots of the times of a range
-abbrev pub slots_of : Layout → List ℕ → ℕ → TimeRange → Slots
-slots_of s key archive p = record {
-  key = key;
-  archive = archive;
-  first = slot_of s archive p.first;
-  last = slot_of s archive p.last;
-}
-
-abbrev pub seen_slots : source.Slots → Slots
-seen_slots p = record { key = p.key.now; archive = p.archive; first = p.first; last = p.last }
-
--- ---- batches as they are made
-
--- whether a cell is of an archive of this series, in a slot of its ranges
-abbrev pub is_cell_in_archive : Layout → ChangedSeries → ℕ → NamedCell → Bool
-is_cell_in_archive s series archive e =
-    is_in_slots (slots_of s series.key archive series.times.recent) e
-    || is_in_slots (slots_of s series.key archive series.times.late) e
-
--- these cells, and as many others as reach a limit with them
-abbrev pub up_to : ℕ → List NamedCell → List NamedCell → List NamedCell
-up_to limit es more = es ++ take (limit - length es) more
-
--- the keys of all these series are before that of a name
-abbrev pub AreBeforeName : Option CellName → List ChangedSeries → Type 0
-AreBeforeName None series = series ≡ []
-AreBeforeName (Some n) series = All (λ own. bytes_cmp own.key n.key ≡ Less) series
-
--- the key of none of these series is before that of a name
-abbrev pub NoneIsBeforeName : Option CellName → List ChangedSeries → Type 0
-NoneIsBeforeName None series = Unit {0}
-NoneIsBeforeName (Some n) series = All (λ own. is_lt (bytes_cmp own.key n.key) ≡ false) series

@@ -5,5 +5,6 @@ pub mod Checkpoints
 pub mod CheckpointLaws
 pub mod Tracking
 pub mod Changes
+pub mod Listing
 pub mod ChangeLaws
 pub mod Held

@@ -1,14 +1,9 @@
 -- Which series changed, by their numbers, and the list of them by their keys.
-use Rattle.std.specs.Prelude.{◌≡◌, ◌≢◌, ◌⊎◌, ℕ, ◌<◌, Bool, true, false, ◌==◌, List, [], ◌∷◌, map, take, length, slice_get, Option, Some, unwrap_or, All, Contains}
-use Rattle.std.specs.BTreeMap.{is_at}
-use Rattle.std.specs.Map.{lookup, keys_of}
+use Rattle.std.specs.Prelude.{◌≡◌, ◌⊎◌, ℕ, ◌<◌, Bool, true, false, ◌==◌, List, [], ◌∷◌, length, slice_get, Option, None, Some, unwrap_or, All, Contains}
 use Rattle.std.specs.List.{list_any}
-use Rattle.std.specs.List.Sorted.{IsStrictlySortedBy}
-use Rattle.rr_text.specs.Bytes.{bytes_cmp}
 use Rattle.rr_cells.specs.declared.op.Op.{Op}
 use Rattle.rr_cells.specs.Operations.{op_key, step}
 use Rattle.rr_cells.specs.ReplicaState.{ReplicaState}
-use Rattle.rr_replica.specs.Numbered.{knows}
 use Rattle.rr_changes.specs.declared.changed_series.ChangedSeries.{ChangedSeries}
 use Rattle.rr_changes.specs.declared.time_range.ChangeTimes.{ChangeTimes}
 use Rattle.rr_changes.specs.declared.time_range.TheConstants.{UNCHANGED}
@@ -45,14 +40,11 @@ pub record AreListed (times : List ChangeTimes) (changed : List ℕ) : Type 0 wh
   pub within : (i : ℕ) → is_listed changed i ≡ true → i < length times
   pub moved : (i : ℕ) → is_listed changed i ≡ true → is_changed (times_at times i) ≡ true
 
--- ---- changed series by their keys
-
--- the keys strictly ascend
-abbrev pub AreInOrder : List ChangedSeries → Type 0
-AreInOrder series = IsStrictlySortedBy bytes_cmp (map (λ c. c.key) series)
+-- ---- changed series by their numbers
 
 -- a series that has changed, whose key and ranges are at its number
 pub record IsSeriesAt (keys : List (List ℕ)) (times : List ChangeTimes) (i : ℕ) (series : ChangedSeries) : Type 0 where
+  pub number : series.number ≡ i
   pub key : slice_get keys i ≡ Some series.key
   pub here : times_at times i ≡ series.times
   pub moved : is_changed series.times ≡ true
@@ -62,28 +54,14 @@ pub record AreChangedSeries (keys : List (List ℕ)) (times : List ChangeTimes) 
   pub part : All (λ own. (i : ℕ) × IsSeriesAt keys times i own) series
   pub whole : (i : ℕ) (own : ChangedSeries) → IsSeriesAt keys times i own → Contains series own
 
--- ---- in a tree by their keys
+-- the series with a key and a number
+abbrev pub series_of : ℕ → ChangeTimes → Option (List ℕ) → List ChangedSeries
+series_of i times None = []
+series_of i times (Some key) = record { number = i; key = key; times = times } ∷ []
 
--- the ranges of a key, if it has some
-abbrev pub times_by : List (List ℕ × ChangeTimes) → List ℕ → Option ChangeTimes
-times_by entries key = lookup (is_at (bytes_cmp key)) entries
-
--- the ranges of a number were put at its key, if it has one, which no number before it has
-pub record AddsSeries (keys : List (List ℕ)) (i : ℕ) (times : ChangeTimes) (old new : List (List ℕ × ChangeTimes)) : Type 0 where
-  pub here : (key : List ℕ) → slice_get keys i ≡ Some key → times_by new key ≡ Some times
-  pub others : (key : List ℕ) → slice_get keys i ≢ Some key → times_by new key ≡ times_by old key
-  pub first : (key : List ℕ) → slice_get keys i ≡ Some key → knows (take i keys) key ≡ false
-  pub ordered : IsStrictlySortedBy bytes_cmp (keys_of old) → IsStrictlySortedBy bytes_cmp (keys_of new)
-
-abbrev pub series_of : List ℕ × ChangeTimes → ChangedSeries
-series_of e = record { key = e.0; times = e.1 }
-
--- exactly the series that have changed and have a key, in order
-pub record AreByKey (keys : List (List ℕ)) (times : List ChangeTimes) (entries : List (List ℕ × ChangeTimes)) : Type 0 where
-  pub ordered : IsStrictlySortedBy bytes_cmp (keys_of entries)
-  pub part : (key : List ℕ) (ps : ChangeTimes) → times_by entries key ≡ Some ps
-      → (i : ℕ) × IsSeriesAt keys times i (series_of (key, ps))
-  pub whole : (i : ℕ) (own : ChangedSeries) → IsSeriesAt keys times i own → times_by entries own.key ≡ Some own.times
+-- the series with a number, if it has a key
+abbrev pub numbered_series : List (List ℕ) → ℕ → ChangeTimes → List ChangedSeries
+numbered_series keys i times = series_of i times (slice_get keys i)
 
 -- ---- operations
 

@@ -4,7 +4,7 @@ ghost use Rattle.rr_changes.specs.ChangeTimes.{is_changed, with_time};
 ghost use Rattle.rr_changes.specs.Tracking.{AreListed, times_at};
 ghost use Rattle.rr_changes.specs.declared.time_range.TheConstants.{UNCHANGED};
 
-use crate::by_key::{list_by_key, times_by_key};
+use crate::by_number::series_numbered;
 use crate::changed_series::ChangedSeries;
 use crate::time_range::{ChangeTimes, UNCHANGED};
 use rr_archive::Cells;
@@ -39,7 +39,7 @@ impl Model for ChangeTracker {
 }
 
 impl ChangeTracker {
-    ghost use Rattle.rr_changes.specs.Tracking.{AreChangedSeries, AreInOrder, HasRoom, times_of};
+    ghost use Rattle.rr_changes.specs.Tracking.{AreChangedSeries, HasRoom, times_of};
 
     /// A tracker with no changed series yet. A time at most `near` nanoseconds from the recent
     /// range of its series widens that range. Takes no memory.
@@ -103,19 +103,17 @@ impl ChangeTracker {
         self.times[series] = times.with_time(self.near, time);
     }
 
-    /// The series that have changed, in the order of their keys, which the replica has by number.
-    /// The cost is n log n in the number of these series.
+    /// The series that have changed, in the order in which they did, with the keys that the replica
+    /// has by number. The cost is linear in the number of these series.
     pub fn series<A: Cells>(
         &self,
         alloc: Global,
         replica: &Replica<A>,
     ) -> Result<Vec<ChangedSeries>, AllocError>
-        ensures ascending { IfOk result (λ series. AreInOrder series.items) }
-        ensures each { IfOk result (λ series.
+        ensures { IfOk result (λ series.
             AreChangedSeries replica.now.keys self.now.times series.items) }
     {
-        let by_key = times_by_key(alloc, replica, &self.changed, &self.times)?;
-        list_by_key(alloc, &by_key)
+        series_numbered(alloc, replica, &self.changed, &self.times)
     }
 
     /// Forgets all changes. The cost is linear in the series that have changed.

@@ -10,14 +10,14 @@
 //! [`ChangeTracker`] tracks them: at most two [`TimeRange`]s a series (`specs/Tracking.antt`).
 //! Before an operation is applied, the tracker is made `ready` for its series; after that, `track`
 //! can't fail. A joined cell that [`is_held`] already changes nothing, and isn't tracked. To write
-//! what changed, its `series` are listed in the order of their keys, and [`next_changes`] gives the
-//! cells in the slots of their ranges, up to a limit at a time, each call after the last cell of
-//! the one before, until fewer come (`specs/Changes.antt`). Once they are written, the tracker is
-//! cleared; if they aren't, the next list has them again. For a checkpoint, [`next_cells`] gives
-//! all cells in the same way. [`laws`] states what the cells of all calls come to.
+//! what changed, its `series` are listed by their numbers, and [`ArchiveChanges`] lists the cells of
+//! each of their archives in the slots of their ranges (`specs/Listing.antt`). Once they are written,
+//! the tracker is cleared; if they aren't, the next list has them again. For a checkpoint,
+//! [`next_cells`] gives all cells, up to a limit at a time, each call after the last cell of the one
+//! before, until fewer come. [`laws`] states what the cells of all calls come to.
 #![tactic(auto)]
 
-mod by_key;
+mod by_number;
 mod change_tracker;
 mod changed_series;
 mod held;
@@ -31,7 +31,7 @@ mod walking;
 pub use change_tracker::ChangeTracker;
 pub use changed_series::ChangedSeries;
 pub use held::is_held;
-pub use listing::next_changes;
+pub use listing::ArchiveChanges;
 pub use time::op_time;
 pub use time_range::{ChangeTimes, NEVER, TimeRange, UNCHANGED};
 pub use walking::next_cells;

@@ -1,211 +1,203 @@
-//! The cells within ranges, up to a limit at a time.
-ghost use Rattle.std.specs.Prelude.{◌≡◌, ◌<◌, ◌≤◌, IfOk, OnOk, drop, length, map, take, vec_len};
-ghost use Rattle.std.specs.FinMap.{entries};
-ghost use Rattle.std.specs.List.{filter};
-ghost use Rattle.std.specs.Option.{option_map};
+//! The cells of an archive within ranges.
+ghost use Rattle.std.specs.Prelude.{◌≡◌, ◌<◌, ◌≤◌, ◌++◌, ◌+◌, ◌+ℤ◌, ◌-ℤ◌, ◌≤ℤ◌, ◌<ℤ◌, [], pos, IfOk, OnOk, None, Some, length, map};
 ghost use Rattle.rr_archive.specs.CellSlots.{IsSlot};
-ghost use Rattle.rr_cells.specs.Listing.{owned_cell, seen_cell};
-ghost use Rattle.rr_delta.specs.Listed.{ListsCells};
-ghost use Rattle.rr_delta.specs.Summaries.{cells_after, cells_from};
-ghost use Rattle.rr_changes.specs.Tracking.{AreInOrder};
-ghost use Rattle.rr_changes.specs.Changes.{AreBeforeName, NoneIsBeforeName, changes_among, is_cell_in, is_cell_in_archive, is_in_slots, name_in, next_of, seen_slots, up_to};
+ghost use Rattle.rr_cells.specs.Cells.{archive_cells};
+ghost use Rattle.rr_changes.specs.Listing.{archive_changes, cells_between, up_to_slot, PushesRun};
 
 use crate::changed_series::ChangedSeries;
 use crate::slots::Slots;
-use rr_archive::Cells;
-use rr_cells::{Cell, CellRef};
-use rr_replica::{CellWalk, Replica};
+use rr_archive::{Cells, Entry};
+use rr_replica::{Hint, Replica};
+use rr_schema::Origin;
 use std::alloc::{AllocError, Global};
+use std::marker::Model;
 
-/// A request for a batch of changes.
-#[derive(Clone, Copy)]
-struct Query<'a, A: Cells> {
-    alloc: Global,
-    replica: &'a Replica<A>,
-    after: Option<&'a Cell>,
-    limit: usize,
+/// Of so few slots each is read by itself; of more, runs of them are read together.
+const FEW: i64 = 8;
+
+const _: () = prove!(FEW == 8);
+
+/// The changes of one archive of a series after another, in memory that is used again. Contracts see
+/// it as the list of these cells.
+#[derive(Drop)]
+pub struct ArchiveChanges {
+    cells: Vec<(i64, Entry)>,
+    row: Vec<Entry>,
+    run: Vec<(i64, Entry)>,
 }
 
-/// The cell from which a walk reaches all those in some slots.
-fn first_of<'a, A: Cells>(
-    walk: &mut CellWalk<'a, A>,
-    query: &Query<'a, A>,
-    slots: &Slots<'_>,
-) -> Option<CellRef<'a>>
-    requires walk { walk.old ≡ query.now.replica.now }
-    requires slot { IsSlot slots.now.first }
-    ensures same { walk.new ≡ walk.old }
-    ensures first { filter (is_in_slots (seen_slots slots.now))
-        (cells_from (option_map seen_cell result) (entries query.now.replica.now.cells))
-        ≡ filter (is_in_slots (seen_slots slots.now)) (entries query.now.replica.now.cells) }
-{
-    let origin = query.replica.origin();
-    walk.next_cell(slots.key, slots.archive, slots.first - 1, origin)
+impl Model for ArchiveChanges {
+    ghost use Rattle.std.specs.Prelude.{List, ℤ};
+    ghost use Rattle.rr_archive.specs.declared.entry.Entry.{Entry};
+
+    ghost Value = { List (ℤ × Entry) };
+
+    ghost view = { λ c. c.cells.items };
 }
 
-/// The cell from which a walk reaches those in some slots that come after the query's cell.
-fn first_after<'a, A: Cells>(
-    walk: &mut CellWalk<'a, A>,
-    query: &Query<'a, A>,
-    slots: &Slots<'_>,
-) -> Option<CellRef<'a>>
-    requires walk { walk.old ≡ query.now.replica.now }
-    requires slot { IsSlot slots.now.first }
-    ensures same { walk.new ≡ walk.old }
-    ensures first { filter (is_in_slots (seen_slots slots.now))
-        (cells_from (option_map seen_cell result) (entries query.now.replica.now.cells))
-        ≡ filter (is_in_slots (seen_slots slots.now))
-        (cells_after (name_in query.now.after) (entries query.now.replica.now.cells)) }
+/// Adds the entries of a slot.
+fn push_row(cells: &mut Vec<(i64, Entry)>, slot: i64, row: &[Entry]) -> Result<(), AllocError>
+    ensures { OnOk result (cells.new.items ≡ cells.old.items ++ map (λ e. (slot, e)) row.now) }
 {
-    let Some(after) = query.after else {
-        return first_of(walk, query, slots);
-    };
-    if slots.are_after(after) {
-        return first_of(walk, query, slots);
+    for entry in row {
+        cells.push((slot, *entry))?;
     }
-    walk.next_cell(&after.key, after.archive, after.slot, after.origin)
+    Ok(())
 }
 
-/// Adds the cells in some slots, in order and up to the limit.
-fn list_slots<A: Cells>(
-    query: &Query<'_, A>,
-    slots: &Slots<'_>,
-    cells: &mut Vec<Cell>,
+/// Adds the cells of a run that are of slots up to a last one.
+fn push_up_to(
+    cells: &mut Vec<(i64, Entry)>,
+    run: &[(i64, Entry)],
+    last: i64,
 ) -> Result<(), AllocError>
-    requires { IsSlot slots.now.first }
-    ensures { OnOk result (map owned_cell cells.new.items ≡ up_to query.now.limit
-        (map owned_cell cells.old.items) (filter (is_in_slots (seen_slots slots.now))
-        (cells_after (name_in query.now.after) (entries query.now.replica.now.cells)))) }
+    ensures { OnOk result (cells.new.items ≡ cells.old.items ++ up_to_slot last run.now) }
 {
-    if slots.last < slots.first || cells.len() >= query.limit {
-        return Ok(());
-    }
-    let mut walk = CellWalk::new(query.alloc, query.replica);
-    let mut next = first_after(&mut walk, query, slots);
-    while let Some(cell) = next {
-        if cells.len() >= query.limit || slots.are_before(&cell) {
+    for cell in run {
+        if cell.0 > last {
             return Ok(());
         }
-        slots.push_in(cells, &cell)?;
-        next = walk.next_cell(cell.key, cell.archive, cell.slot, cell.origin);
+        cells.push(*cell)?;
     }
     Ok(())
 }
 
-/// Adds the cells of an archive of a series within its ranges, in order and up to the limit.
-fn list_archive<A: Cells>(
-    query: &Query<'_, A>,
-    series: &ChangedSeries,
-    archive: u8,
-    cells: &mut Vec<Cell>,
-) -> Result<(), AllocError>
-    requires { archive < length query.now.replica.now.schema.archives }
-    ensures { OnOk result (map owned_cell cells.new.items ≡ up_to query.now.limit
-        (map owned_cell cells.old.items)
-        (filter (is_cell_in_archive query.now.replica.now.schema series.now archive)
-        (cells_after (name_in query.now.after) (entries query.now.replica.now.cells)))) }
-{
-    let schema = query.replica.schema();
-    let recent = Slots::of(schema, &series.key, archive, &series.times.recent);
-    let late = Slots::of(schema, &series.key, archive, &series.times.late);
-    if late.last < recent.first {
-        list_slots(query, &late, cells)?;
-        return list_slots(query, &recent, cells);
-    }
-    if recent.last < late.first {
-        list_slots(query, &recent, cells)?;
-        return list_slots(query, &late, cells);
-    }
-    let both = Slots {
-        key: &series.key,
-        archive,
-        first: recent.first.min(late.first),
-        last: recent.last.max(late.last),
-    };
-    list_slots(query, &both, cells)
-}
-
-/// Adds the cells of a series within its ranges, in order and up to the limit.
-fn list_series<A: Cells>(
-    query: &Query<'_, A>,
-    series: &ChangedSeries,
-    cells: &mut Vec<Cell>,
-) -> Result<(), AllocError>
-    ensures { OnOk result (map owned_cell cells.new.items ≡ up_to query.now.limit
-        (map owned_cell cells.old.items)
-        (filter (λ e. is_cell_in query.now.replica.now.schema series.now e.0)
-        (cells_after (name_in query.now.after) (entries query.now.replica.now.cells)))) }
-{
-    let archives = query.replica.schema().archives();
-    for archive in 0..archives.len() {
-        list_archive(query, series, archive as u8, cells)?;
-    }
-    Ok(())
-}
-
-/// Adds the cells of series within their ranges, in order and up to the limit. The keys of the
-/// series strictly ascend.
-fn list_all<A: Cells>(
-    query: &Query<'_, A>,
-    series: &[ChangedSeries],
-    cells: &mut Vec<Cell>,
-) -> Result<(), AllocError>
-    requires { AreInOrder series.now }
-    ensures { OnOk result (map owned_cell cells.new.items ≡ up_to query.now.limit
-        (map owned_cell cells.old.items) (changes_among query.now.replica.now.schema series.now
-        (cells_after (name_in query.now.after) (entries query.now.replica.now.cells)))) }
-{
-    for own in series {
-        if cells.len() >= query.limit {
-            return Ok(());
+impl ArchiveChanges {
+    /// No cells yet. Takes no memory.
+    pub fn new(alloc: Global) -> ArchiveChanges
+        ensures { result ≡ [] }
+    {
+        ArchiveChanges {
+            cells: Vec::new(alloc),
+            row: Vec::new(alloc),
+            run: Vec::new(alloc),
         }
-        list_series(query, own, cells)?;
     }
-    Ok(())
-}
 
-/// How many of these series, whose keys strictly ascend, come before that of a cell.
-fn count_before(series: &[ChangedSeries], after: Option<&Cell>) -> usize
-    requires { AreInOrder series.now }
-    ensures bound { result ≤ length series.now }
-    ensures before { AreBeforeName (name_in after.entry) (take result series.now) }
-    ensures others { NoneIsBeforeName (name_in after.entry) (drop result series.now) }
-{
-    match after {
-        Some(cell) => series.partition_point(|own| own.key < cell.key),
-        None => 0,
+    /// The cells that were listed last, as slots and entries, in order.
+    pub fn cells(&self) -> &[(i64, Entry)]
+        ensures { result.now ≡ self.now }
+    {
+        &self.cells
     }
-}
 
-/// The next changes of a replica: of its live cells of these series, in the slots of their ranges,
-/// the first ones after a cell in the order of names, or the first of all; as many as `limit`, and
-/// fewer only if there are no more. The keys of the series strictly ascend.
-///
-/// The cost is that of `CellWalk::next_cell` for each of these cells, two lookups of the key for
-/// each range of each archive of their series, and finding the first of these series.
-pub fn next_changes<A: Cells>(
-    alloc: Global,
-    replica: &Replica<A>,
-    series: &[ChangedSeries],
-    after: Option<&Cell>,
-    limit: usize,
-) -> Result<Vec<Cell>, AllocError>
-    requires { AreInOrder series.now }
-    ensures next { ListsCells replica.now.schema (next_of limit (name_in after.entry)
-        (changes_among replica.now.schema series.now (entries replica.now.cells))) result }
-    ensures end { IfOk result (λ cells. vec_len cells < limit → map owned_cell cells.items
-        ≡ cells_after (name_in after.entry)
-        (changes_among replica.now.schema series.now (entries replica.now.cells))) }
-{
-    // The proof needs the replica's invariant, which `schema` ensures.
-    let _schema = replica.schema();
-    let query = Query {
-        alloc,
-        replica,
-        after,
-        limit,
-    };
-    let mut cells = Vec::new(alloc);
-    list_all(&query, &series[count_before(series, after)..], &mut cells)?;
-    Ok(cells)
+    /// Lists the changes of a series in one of its archives: the live cells in the slots of its
+    /// ranges.
+    ///
+    /// The cost is that of finding the series by its number, and for each of its ranges that of
+    /// `Cells::entries_into` for a few slots, or else that of `Cells::next_cell` and
+    /// `Cells::cells_into` for each run of slots that has a cell.
+    pub fn list<A: Cells>(
+        &mut self,
+        replica: &Replica<A>,
+        series: &ChangedSeries,
+        archive: u8,
+    ) -> Result<(), AllocError>
+        requires { archive < length replica.now.schema.archives }
+        ensures { OnOk result (self.new ≡ archive_changes replica.now.schema archive
+            series.now.times (archive_cells replica.now.cells series.now.key archive)) }
+    {
+        self.cells.clear();
+        let hint = Hint::at(series.number);
+        let Some(held) = replica.archive_near(hint, &series.key, archive) else {
+            return Ok(());
+        };
+        let (schema, origin) = (replica.schema(), replica.origin());
+        let recent = Slots::of(schema, archive, &series.times.recent);
+        let late = Slots::of(schema, archive, &series.times.late);
+        if late.last < recent.first {
+            self.push_slots(held, &late, origin)?;
+            return self.push_slots(held, &recent, origin);
+        }
+        if recent.last < late.first {
+            self.push_slots(held, &recent, origin)?;
+            return self.push_slots(held, &late, origin);
+        }
+        let both = Slots {
+            first: recent.first.min(late.first),
+            last: recent.last.max(late.last),
+        };
+        self.push_slots(held, &both, origin)
+    }
+
+    /// Adds the cells of an archive in some slots.
+    fn push_slots<A: Cells>(
+        &mut self,
+        archive: &A,
+        slots: &Slots,
+        origin: Origin,
+    ) -> Result<(), AllocError>
+        requires first { IsSlot slots.now.first }
+        requires last { IsSlot slots.now.last }
+        ensures { OnOk result (self.new ≡ self.old
+            ++ cells_between (A.cells archive.now) slots.now.first (slots.now.last +ℤ pos 1)) }
+    {
+        if slots.last - slots.first < FEW {
+            self.push_rows(archive, slots)
+        } else {
+            self.push_runs(archive, slots, origin)
+        }
+    }
+
+    /// Adds the cells of an archive in some slots, slot by slot.
+    fn push_rows<A: Cells>(&mut self, archive: &A, slots: &Slots) -> Result<(), AllocError>
+        requires first { IsSlot slots.now.first }
+        requires last { IsSlot slots.now.last }
+        ensures { OnOk result (self.new ≡ self.old
+            ++ cells_between (A.cells archive.now) slots.now.first (slots.now.last +ℤ pos 1)) }
+    {
+        for slot in slots.first..slots.last + 1 {
+            archive.entries_into(slot, &mut self.row)?;
+            push_row(&mut self.cells, slot, &self.row)?;
+        }
+        Ok(())
+    }
+
+    /// Adds the cells of an archive in some slots, run by run.
+    fn push_runs<A: Cells>(
+        &mut self,
+        archive: &A,
+        slots: &Slots,
+        origin: Origin,
+    ) -> Result<(), AllocError>
+        requires first { IsSlot slots.now.first }
+        requires last { IsSlot slots.now.last }
+        ensures { OnOk result (self.new ≡ self.old
+            ++ cells_between (A.cells archive.now) slots.now.first (slots.now.last +ℤ pos 1)) }
+    {
+        let mut first = slots.first;
+        while first <= slots.last {
+            match self.push_run(archive, first, slots.last, origin)? {
+                Some(next) => first = next,
+                None => return Ok(()),
+            }
+        }
+        Ok(())
+    }
+
+    /// Adds the cells of the first run of an archive that begins with a cell, from a slot on and up
+    /// to a last one, and returns the slot after the run. There is none if no cell is left.
+    fn push_run<A: Cells>(
+        &mut self,
+        archive: &A,
+        first: i64,
+        last: i64,
+        origin: Origin,
+    ) -> Result<Option<i64>, AllocError>
+        requires first { IsSlot first }
+        requires last { IsSlot last }
+        requires order { first ≤ℤ last }
+        ensures { PushesRun (A.cells archive.now) first last self.old self.new result }
+    {
+        let Some((cell, _)) = archive.next_cell(first - 1, origin) else {
+            return Ok(None);
+        };
+        if cell > last {
+            return Ok(None);
+        }
+        let start = cell.max(first);
+        let slots = archive.cells_into(start, &mut self.run)?;
+        push_up_to(&mut self.cells, &self.run, last)?;
+        Ok(Some(start + i64::from(slots)))
+    }
 }

@@ -12,6 +12,9 @@ use crate::steps::push_steps;
 use rr_archive::Entry;
 use std::alloc::{AllocError, Global};
 
+/// As many bytes as most lone cells take, so that these are packed without a growth.
+const ROOM: usize = 48;
+
 /// The nanoseconds of a second.
 const NANOS: u128 = 1_000_000_000;
 
@@ -97,7 +100,7 @@ pub fn encode(alloc: Global, cells: &[(i64, Entry)]) -> Result<Vec<u8>, AllocErr
         × (bytes.items ≡ packed_text span cells.now)) }
     ensures size { IfOk result (λ bytes. length bytes.items ≤ 24 + 123 * length cells.now) }
 {
-    let mut bytes = Vec::new(alloc);
+    let mut bytes = Vec::with_capacity(alloc, ROOM)?;
     let span = guessed_span(cells);
     push_number(&mut bytes, cells.len() as u128)?;
     push_number(&mut bytes, span)?;

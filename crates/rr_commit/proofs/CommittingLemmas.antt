@@ -1,15 +1,11 @@
 -- Records that are committed batch by batch.
-use Rattle.std.proofs.Common.{◌≡◌, inl, inr, ℕ, suc, ◌+◌, ◌<◌, ◌≤◌, Bool, true, false, true≢false, List, [], ◌∷◌, ◌++◌, length, map, append-nil, subst, None, refl, sym, ap, ◌∙◌, append_assoc, arith, Option}
-use Rattle.std.specs.Prelude.{◌^◌, Err, IfErr, MatchBool, Ok, Result, nat_lt}
+use Rattle.std.proofs.Common.{◌≡◌, inl, inr, ℕ, ◌+◌, ◌<◌, ◌≤◌, List, [], ◌∷◌, ◌++◌, length, map, subst, refl, sym, ap, ◌∙◌, append_assoc, arith, Option}
+use Rattle.std.specs.Prelude.{◌^◌, Err, IfErr, Ok, Result}
 use Rattle.std.specs.Int.{w64, to_be_bytes}
 use Rattle.std.specs.List.{AllByRecursion}
-use Rattle.std.specs.FinMap.{entries}
-use Rattle.std.proofs.lemmas.Bool.Decides.{nat_tests}
-use Rattle.rr_replica.proofs.Counted.{take_all}
-use Rattle.rr_cells.specs.Joins.{join_cells}
 use Rattle.rr_changes.specs.declared.changed_series.ChangedSeries.{ChangedSeries}
-use Rattle.rr_changes.specs.Changes.{changes_among, next_of}
-use Rattle.rr_desk.specs.KeeperState.{KeeperState, cells_of, written_cells}
+use Rattle.rr_changes.specs.Listing.{changes_of, changes_of_all}
+use Rattle.rr_desk.specs.KeeperState.{KeeperState, cells_of}
 use Rattle.rr_desk.specs.Written.{CoverChanges}
 use Rattle.rr_journal.specs.declared.raw.RawRecord.{RawRecord}
 use Rattle.rr_journal.specs.declared.raw.TheConstants.{MAX_BODY_LEN}
@@ -26,7 +22,8 @@ use Rattle.rr_journal.specs.Witness.{IsWitness, batch_of, witness_record}
 use Rattle.rr_journal.proofs.RecordLemmas.{cut_len}
 use Rattle.rr_journal.proofs.KeepingLemmas.{append_none, append_twice}
 use Rattle.rr_commit.specs.Committing.{AreWitnessed, CommitsAll, CommitsChanges, IsCommitted}
-use Rattle.rr_commit.specs.Records.{AreRecordsOf}
+use Rattle.std.specs.List.{flat_map}
+use Rattle.rr_commit.specs.Packing.{ArePacked}
 
 -- ---- one record
 
@@ -180,35 +177,26 @@ then_others rs qs old mid new half text before between cursor (Err NotSynced) a 
 
 -- ---- a keeper's changes
 
--- the whole list of changes is one batch
-pub one_walk : (k : KeeperState) (series : List ChangedSeries) → CoverChanges k series
-    → join_cells k.schema (written_cells k) (changes_among k.schema series (entries (cells_of k))) ≡ cells_of k
-one_walk k series cover =
-    let es = changes_among k.schema series (entries (cells_of k)) in
-    let limit = suc (length es) in
-    let all : es ≡ next_of limit None es = sym (take_all es limit (omega arith)) in
-    ap (join_cells k.schema (written_cells k)) (sym (append-nil es))
-    ∙ cover.makes limit (es ∷ []) (all, shorter _ _ (nat_lt (length es) limit) (less (length es)) refl)
-  where
-    less : (n : ℕ) → nat_lt n (suc n) ≡ true
-    less n = grind (arith, nat_tests)
-
-    shorter : (P Q : Type 0) (b : Bool) → b ≡ true → P → MatchBool b P Q
-    shorter P Q true e p = p
-    shorter P Q false e p = absurd (true≢false (sym e))
-
 pub changes_committed : (k : KeeperState) (series : List ChangedSeries) (raws : List RawRecord)
     (old new text : Option (List ℕ)) (before cursor : Cursor) → CoverChanges k series
-    → AreRecordsOf (changes_among k.schema series (entries (cells_of k))) raws
+    → ArePacked (map (changes_of k.schema (cells_of k)) series) raws
     → IsCommitted (map raw_of raws) old new text before cursor → CommitsChanges k old new text before cursor
 changes_committed k series raws old new text before cursor cover of is = record {
   records = is.records;
-  cells = changes_among k.schema series (entries (cells_of k));
+  cells = changes_of_all k.schema (cells_of k) series;
   of = record {
     meanings = of.meanings;
     witnessed = subst (λ rs. AreWitnessed rs is.records) of.text is.witnessed;
-    has = of.has;
+    has = of.has ∙ each series;
   };
   committed = is.committed;
-  makes = one_walk k series cover;
+  makes = cover.makes;
+  series = series;
+  changed = cover;
+  together = of.together;
 }
+  where
+    each : (own : List ChangedSeries) → flat_map (λ es. es) (map (changes_of k.schema (cells_of k)) own)
+        ≡ changes_of_all k.schema (cells_of k) own
+    each [] = refl
+    each (x ∷ own) = ap (λ es. changes_of k.schema (cells_of k) x ++ es) (each own)

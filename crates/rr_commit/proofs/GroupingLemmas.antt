@@ -50,7 +50,7 @@ one_grouped groups g run left cells so_far has =
     ∙ ap (λ es. done ++ es) (sym (map-append owned_cell run left))
     ∙ so_far
 
-group_len : (g : PackedCells) → length (group_text g) ≡ 7 + length g.key + length g.bytes
+pub group_len : (g : PackedCells) → length (group_text g) ≡ 7 + length g.key + length g.bytes
 unfolding group_text
 group_len g =
     let tail = to_be_bytes w32 (length g.bytes) ++ g.bytes in

@@ -1,3 +1,3 @@
 pub mod GroupingLemmas
-pub mod RecordLemmas
+pub mod PackingLemmas
 pub mod CommittingLemmas

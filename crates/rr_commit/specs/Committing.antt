@@ -11,7 +11,11 @@ use Rattle.rr_journal.specs.Keeping.{Committed, Grows}
 use Rattle.rr_journal.specs.Text.{Raw}
 use Rattle.rr_journal.specs.Witness.{IsWitness}
 use Rattle.rr_recovery.specs.Joining.{cells_of_record}
+use Rattle.rr_changes.specs.declared.changed_series.ChangedSeries.{ChangedSeries}
+use Rattle.rr_changes.specs.Listing.{changes_of}
 use Rattle.rr_desk.specs.KeeperState.{KeeperState, cells_of, written_cells}
+use Rattle.rr_desk.specs.Written.{CoverChanges}
+use Rattle.rr_commit.specs.Packing.{AreTogether}
 
 -- these records, with witnesses among them
 abbrev pub AreWitnessed : List Raw → List Raw → Type 0
@@ -45,10 +49,14 @@ pub record HaveCells (records : List Raw) (cells : List NamedCell) : Type 0 wher
 abbrev pub CommitsSome : Option (List ℕ) → Option (List ℕ) → Option (List ℕ) → Cursor → Cursor → Type 0
 CommitsSome old new text before cursor = (records : List Raw) × Committed old new text before cursor records
 
--- a keeper's changes were committed: records of cells that lead from what was written to what the keeper holds
+-- a keeper's changes were committed: records of cells that lead from what was written to what the keeper holds, those of
+-- a series in one record
 pub record CommitsChanges (k : KeeperState) (old new text : Option (List ℕ)) (before cursor : Cursor) : Type 0 where
   pub records : List Raw
   pub cells : List NamedCell
   pub of : HaveCells records cells
   pub committed : Committed old new text before cursor records
   pub makes : join_cells k.schema (written_cells k) cells ≡ cells_of k
+  pub series : List ChangedSeries
+  pub changed : CoverChanges k series
+  pub together : AreTogether of.meanings (map (changes_of k.schema (cells_of k)) series)

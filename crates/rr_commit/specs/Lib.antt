@@ -1,5 +1,5 @@
 pub mod Grouping
 pub mod Records
-pub mod Changes
+pub mod Packing
 pub mod Fault
 pub mod Committing

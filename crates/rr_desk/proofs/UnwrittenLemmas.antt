@@ -1,8 +1,9 @@
 -- What a keeper has not written, as operations are pushed and all is written.
-use Rattle.std.proofs.Common.{◌≡◌, ◌≢◌, ℕ, ◌+◌, ◌-◌, ◌≤◌, Bool, true, false, not, true≢false, List, [], ◌∷◌, ◌++◌, fold, length, take, drop, slice_get, Some, refl, sym, ap, ◌∙◌, subst, arith}
+use Rattle.std.proofs.Common.{◌≡◌, ◌≢◌, ℕ, ◌+◌, ◌-◌, ◌<◌, ◌≤◌, Bool, true, false, not, true≢false, List, [], ◌∷◌, ◌++◌, fold, length, take, drop, slice_get, Some, refl, sym, ap, ◌∙◌, subst, arith}
 use Rattle.std.proofs.Math.Seq.{drop-length, take-length}
 use Rattle.std.proofs.lemmas.List.{drop-append-le, length-append, take-append-le}
 use Rattle.std.proofs.lemmas.List.Sums.{fold-append}
+use Rattle.std.specs.FinMap.{get}
 use mathlib.Core.List.{IsPrefix}
 use Rattle.rr_schema.specs.Schema.{Layout}
 use Rattle.rr_cells.specs.Cells.{Cells}
@@ -13,10 +14,11 @@ use Rattle.rr_cells.specs.Operations.{joins_of, op_key, outcome_of, step}
 use Rattle.rr_cells.specs.ReplicaState.{IsReplicaState, ReplicaState}
 use Rattle.rr_cells.proofs.OperationsLemmas.{outcome_of-joins, step-schema, steps-schema}
 use Rattle.rr_changes.specs.declared.changed_series.ChangedSeries.{ChangedSeries}
+use Rattle.rr_changes.specs.Changes.{HasArchivesOf}
 use Rattle.rr_changes.specs.Tracking.{AreChangedSeries, AreTracked}
 use Rattle.rr_changes.specs.Updates.{GoesOn, is_held}
 use Rattle.rr_changes.proofs.AddingLemmas.{operations_go_on, operations_only_add, replicas_go_on}
-use Rattle.rr_changes.proofs.BatchLemmas.{tracked_changes_make_the_cells}
+use Rattle.rr_changes.proofs.ListedLemmas.{tracked_changes_make_the_cells}
 use Rattle.rr_changes.proofs.CoveredLemmas.{covered_cells_are_an_update}
 use Rattle.rr_changes.proofs.HeldLemmas.{held_cells_change_nothing}
 use Rattle.rr_changes.proofs.TrackingLemmas.{one_more_is_tracked, still_tracked, tracked_operations_are_covered, unchanging_needs_no_tracking}
@@ -115,8 +117,9 @@ module _ (own : ReplicaState) (keys : List (List ℕ)) (u : Unwritten) (ops : Li
 -- the cells of the series that have changed are an update since what is written
 pub unwritten-covered : (k : KeeperState) (own : ReplicaState) (keys : List (List ℕ)) (u : Unwritten) (ops : List Op)
     (series : List ChangedSeries) → IsUnwritten own keys u ops → own ≡ own_replica k → k.published ++ k.pending ≡ ops
-    → k.written ≡ length ops - u.count → AreChangedSeries keys u.tracker.times series → CoverChanges k series
-unwritten-covered k own keys u ops series is same all count changed =
+    → k.written ≡ length ops - u.count → AreChangedSeries keys u.tracker.times series → IsReplicaState own
+    → CoverChanges k series
+unwritten-covered k own keys u ops series is same all count changed holds =
     let h = is.before in
     let rest = drop (length ops - u.count) ops in
     let now = fold step h rest in
@@ -126,12 +129,15 @@ unwritten-covered k own keys u ops series is same all count changed =
     ∙ ap (λ (x : ReplicaState). x.cells) same in
     let written : h.cells ≡ written_cells k = is.cells
     ∙ (λ i. outcome_of ((same i).schema) (take (sym count i) (sym all i))) in
+    let layout : own.schema ≡ h.schema = ap (λ (x : ReplicaState). x.schema) is.applied ∙ steps-schema rest h in
+    let held : own.cells ≡ now.cells = ap (λ (x : ReplicaState). x.cells) is.applied in
+    let has : HasArchivesOf h.schema now.cells = λ n c e. subst (λ (s : Layout). n.archive < length s.archives) layout
+    (holds.cells n c (ap (λ (m : Cells). get m n) held ∙ e)).archive in
     let made : IsUpdateOf h.schema h.cells now.cells series = record {
       holds = operations_only_add h rest is.goes_on;
       update = covered_cells_are_an_update h rest series is.goes_on
           (tracked_operations_are_covered keys u.tracker series h rest changed is.tracked);
-      makes = λ limit batches. tracked_changes_make_the_cells h rest keys u.tracker series limit batches is.goes_on
-          is.tracked changed;
+      makes = tracked_changes_make_the_cells h rest keys u.tracker series is.goes_on is.tracked changed has;
     } in
     subst (λ (z : Layout × Cells × Cells). IsUpdateOf z.0 z.1 z.2 series) (λ i. (schema i, written i, cells i)) made
 

@@ -4,7 +4,6 @@ ghost use Rattle.left_right.specs.Sides.{view};
 ghost use Rattle.rr_cells.specs.ReplicaState.{IsReplicaState};
 ghost use Rattle.rr_cells.specs.Operations.{accepts, joins_of};
 ghost use Rattle.rr_replica.specs.ReplicaWithRoom.{replica_state};
-ghost use Rattle.rr_changes.specs.Tracking.{AreInOrder};
 ghost use Rattle.rr_desk.specs.Editions.{flat};
 ghost use Rattle.rr_desk.specs.Rule.{keeper_of};
 ghost use Rattle.rr_desk.specs.KeeperState.{cells_of, own_replica, keeper_at_opening, with_all_published, with_all_written, with_pending};
@@ -175,11 +174,12 @@ impl<A: Cells> Copies<A> {
         Ok(())
     }
 
-    /// The series that have changed since what is written, in the order of their keys.
+    /// The series that have changed since what is written.
     pub fn changed_series(&self, alloc: Global) -> Result<Vec<ChangedSeries>, AllocError>
-        ensures ascending { IfOk result (λ series. AreInOrder series.items) }
-        ensures changes { IfOk result (λ series. CoverChanges self.now series.items) }
+        ensures { IfOk result (λ series. CoverChanges self.now series.items) }
     {
+        // The proof needs the replica's invariant, which `schema` ensures.
+        let _schema = self.own.schema();
         self.unwritten.tracker.series(alloc, &self.own)
     }
 

@@ -1,5 +1,5 @@
 //! The keeper of a desk, its only writer.
-ghost use Rattle.std.specs.Prelude.{◌≡◌, ◌<◌, ◌↔◌, Err, IfOk, map, take, drop, vec_len};
+ghost use Rattle.std.specs.Prelude.{◌≡◌, ◌<◌, ◌↔◌, Err, IfOk, OnOk, length, map, take, drop};
 ghost use Rattle.std.specs.FinMap.{entries, len};
 ghost use Rattle.std.specs.Io.KnownBytes.{Keeps};
 ghost use Rattle.rr_io.specs.Counted.{inner_of};
@@ -9,8 +9,8 @@ ghost use Rattle.rr_cells.specs.Listing.{at_most_usize, owned_cell};
 ghost use Rattle.rr_cells.specs.declared.op.Op.TheVariants.{Join};
 ghost use Rattle.rr_replica.specs.ReplicaWithRoom.{replica_state};
 ghost use Rattle.rr_replica.specs.Horizon.{keeps};
-ghost use Rattle.rr_changes.specs.Changes.{changes_among, name_in as after_name, next_of};
-ghost use Rattle.rr_changes.specs.Tracking.{AreInOrder};
+ghost use Rattle.rr_cells.specs.Cells.{archive_cells};
+ghost use Rattle.rr_changes.specs.Listing.{archive_changes};
 ghost use Rattle.rr_delta.specs.Listed.{ListsCells, ListsNames};
 ghost use Rattle.rr_delta.specs.Names.{name_in, named_version, versions_of};
 ghost use Rattle.rr_delta.specs.Summaries.{cells_after};
@@ -33,7 +33,7 @@ use crate::shown::{CopyState, Shown};
 use left_right::Absorb;
 use rr_archive::Cells;
 use rr_cells::{Cell, Op, Sample};
-use rr_changes::{ChangedSeries, next_changes};
+use rr_changes::{ArchiveChanges, ChangedSeries};
 use rr_delta::{Name, summary, summary_after};
 use rr_io::Counted;
 use rr_key::SeriesKey;
@@ -241,37 +241,31 @@ impl<A: Cells> Keeper<A> {
     }
 
     /// The series that have changed since what is written, each with the ranges of times in which
-    /// it did, in the order of their keys: [`Keeper::changes`] gives their cells. Joining cells
-    /// that are already held doesn't change a series.
+    /// it did, in the order in which they did: [`Keeper::list_changes`] gives their cells. Joining
+    /// cells that are already held doesn't change a series.
     ///
     /// What is written is all that the desk was opened with, and what [`Keeper::changes_written`]
-    /// was called for. The cost is n log n in the number of series that changed.
+    /// was called for. The cost is linear in the number of series that changed.
     pub fn changed_series(&self, alloc: Global) -> Result<Vec<ChangedSeries>, AllocError>
-        ensures ascending { IfOk result (λ series. AreInOrder series.items) }
-        ensures changes { IfOk result (λ series. CoverChanges self.now series.items) }
+        ensures { IfOk result (λ series. CoverChanges self.now series.items) }
     {
         self.copies.changed_series(alloc)
     }
 
-    /// The next changes: of the live cells of these series, in the slots of their ranges, the first
-    /// ones after a cell in the order of names, or the first of all; as many as `limit`, and fewer
-    /// only if there are no more. They are those of all operations, pending ones too. The keys of
-    /// the series strictly ascend. The cost is that of [`rr_changes::next_changes`].
-    pub fn changes(
+    /// Lists the changes of a series in one of its archives: the live cells in the slots of its
+    /// ranges. They are those of all operations, pending ones too. The cost is that of
+    /// [`ArchiveChanges::list`].
+    pub fn list_changes(
         &self,
-        alloc: Global,
-        series: &[ChangedSeries],
-        after: Option<&Cell>,
-        limit: usize,
-    ) -> Result<Vec<Cell>, AllocError>
-        requires { AreInOrder series.now }
-        ensures next { ListsCells self.now.schema (next_of limit (after_name after.entry)
-            (changes_among self.now.schema series.now (entries (cells_of self.now)))) result }
-        ensures end { IfOk result (λ cells. vec_len cells < limit → map owned_cell cells.items
-            ≡ cells_after (after_name after.entry)
-            (changes_among self.now.schema series.now (entries (cells_of self.now)))) }
+        changes: &mut ArchiveChanges,
+        series: &ChangedSeries,
+        archive: u8,
+    ) -> Result<(), AllocError>
+        requires { archive < length self.now.schema.archives }
+        ensures { OnOk result (changes.new ≡ archive_changes self.now.schema archive
+            series.now.times (archive_cells (cells_of self.now) series.now.key archive)) }
     {
-        next_changes(alloc, self.copies.replica(), series, after, limit)
+        changes.list(self.copies.replica(), series, archive)
     }
 
     /// Marks the changes as written: whoever has what was written holds what the keeper holds. The

@@ -15,6 +15,12 @@ impl Hint {
         Hint { index: usize::MAX }
     }
 
+    /// The hint of the series with this number: series are counted from 0 in the order in which they
+    /// came.
+    pub fn at(series: usize) -> Hint {
+        Hint { index: series }
+    }
+
     /// The index of the series, if a replica gave the hint: series are counted from 0 in the order
     /// in which they came. `usize::MAX` if nothing is known.
     pub fn index(self) -> usize {

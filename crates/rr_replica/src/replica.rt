@@ -299,8 +299,9 @@ impl<A: Cells> Replica<A> {
         self.archive_near(Hint::none(), key, i)
     }
 
-    /// The archive of a key by number, as [`Replica::archive`] gives it. The hint is tried first.
-    pub(crate) fn archive_near(&self, hint: Hint, key: &SeriesKey, i: u8) -> Option<&A>
+    /// The archive of a key by number, as [`Replica::archive`] gives it. The cost is one lookup of
+    /// the key; if the hint is right, a comparison of two keys.
+    pub fn archive_near(&self, hint: Hint, key: &SeriesKey, i: u8) -> Option<&A>
         ensures { MatchOption result (archive_cells self.now.cells key.now i ≡ fin.empty)
             (λ archive. A.cells archive.now ≡ archive_cells self.now.cells key.now i) }
     {

@@ -1,7 +1,7 @@
-//! What changed in a replica, listed a few cells at a time, and joined into another.
+//! What changed in a replica, listed archive by archive, and joined into another.
 use rr_base::{ArchiveSpec, Origin, Schema};
 use rr_cells::Cell;
-use rr_changes::{ChangeTracker, next_changes};
+use rr_changes::{ArchiveChanges, ChangeTracker};
 use rr_key::SeriesKey;
 use rr_replica::Replica;
 use rr_ring::RingArchive;
@@ -53,23 +53,24 @@ fn put(
     Some(())
 }
 
-/// Joins the next three changes after a cell. Returns how many there were, and the last of them.
-fn join_next(
-    alloc: Global,
-    replica: &Replica<RingArchive>,
+/// Joins the cells that are listed of an archive of a series. Returns how many there are.
+fn join_listed(
     copy: &mut Replica<RingArchive>,
-    tracker: &ChangeTracker,
-    after: &Option<Cell>,
-) -> Option<(usize, Option<Cell>)> {
-    let series = tracker.series(alloc, replica).ok()?;
-    let cells = next_changes(alloc, replica, &series, after.as_ref(), 3).ok()?;
-    for cell in &cells {
-        copy.apply_cell(cell).ok()?;
+    key: &SeriesKey,
+    archive: u8,
+    changes: &ArchiveChanges,
+) -> Option<usize> {
+    for (slot, entry) in changes.cells() {
+        let cell = Cell {
+            key: key.copy().ok()?,
+            archive,
+            slot: *slot,
+            origin: entry.origin,
+            contribution: entry.contribution,
+        };
+        copy.apply_cell(&cell).ok()?;
     }
-    match cells.last() {
-        Some(last) => Some((cells.len(), Some(last.copy().ok()?))),
-        None => Some((0, None)),
-    }
+    Some(changes.cells().len())
 }
 
 /// Joins all changes, and forgets them. Returns how many there were.
@@ -79,18 +80,17 @@ fn join_all(
     copy: &mut Replica<RingArchive>,
     tracker: &mut ChangeTracker,
 ) -> Option<usize> {
+    let mut changes = ArchiveChanges::new(alloc);
     let mut joined = 0usize;
-    let mut after = None;
-    for _ in 0..20 {
-        let (count, last) = join_next(alloc, replica, copy, tracker, &after)?;
-        joined = joined.saturating_add(count);
-        after = last;
-        if count < 3 {
-            tracker.clear();
-            return Some(joined);
+    for own in tracker.series(alloc, replica).ok()? {
+        for archive in 0..replica.schema().archives().len() {
+            changes.list(replica, &own, archive as u8).ok()?;
+            let count = join_listed(copy, &own.key, archive as u8, &changes)?;
+            joined = joined.saturating_add(count);
         }
     }
-    None
+    tracker.clear();
+    Some(joined)
 }
 
 /// Whether replicas have the same cells, whatever their origins.

@@ -1,4 +1,4 @@
-use Rattle.std.proofs.Common.{rules, ◌≡◌, ℕ, ℤ, ◌<◌, true, ap, sym, ◌∙◌, subst, to_z, of_z, w64, Some, None}
+use Rattle.std.proofs.Common.{rules, ◌≡◌, ℕ, ℤ, ◌<◌, ap, sym, ◌∙◌, subst, to_z, of_z, w64, Some, None}
 use Rattle.std.specs.Option.{option_map}
 use Rattle.rr_join.proofs.Booleans.{and_second}
 use Rattle.rr_contrib.proofs.ValidityLemmas.{Decides-is_valid}

@@ -1,12 +1,11 @@
 use Rattle.std.proofs.Common.{rules, subst, [], map, List}
-use Rattle.std.specs.FinMap.{entries}
 use Rattle.rr_changes.specs.declared.changed_series.ChangedSeries.{ChangedSeries}
-use Rattle.rr_changes.specs.Changes.{changes_among}
+use Rattle.rr_changes.specs.Listing.{changes_of}
 use Rattle.rr_desk.specs.KeeperState.{cells_of}
 use Rattle.rr_journal.specs.declared.raw.RawRecord.{RawRecord}
 use Rattle.rr_journal.specs.Text.{raw_of}
 use Rattle.rr_commit.specs.Committing.{IsCommitted}
-use Rattle.rr_commit.specs.Records.{AreRecordsOf}
+use Rattle.rr_commit.specs.Packing.{ArePacked}
 use Rattle.rr_commit.proofs.CommittingLemmas.{changes_committed, if_refused, nothing_committed}
 use Rattle.rr_commit.proofs.keeper.commit_changes.Goals as goal
 
@@ -33,8 +32,8 @@ returns-clause-committed g c =
     changes_committed k c.in_ok-series.series.items c.in_ok-records.records.items
     (g.J.Journal.synced c.args.journal.now) (g.J.Journal.synced c.commit_all.new.journal)
     (g.J.Journal.text c.commit_all.new.journal) c.args.cursor.now c.commit_all.new.cursor
-    c.in_ok-series.ensures.changes
-    (subst (λ (series : List ChangedSeries). AreRecordsOf (changes_among k.schema series (entries (cells_of k)))
+    c.in_ok-series.ensures
+    (subst (λ (series : List ChangedSeries). ArePacked (map (changes_of k.schema (cells_of k)) series)
     c.in_ok-records.records.items) c.deref.ensures.value c.in_ok-records.ensures)
     (subst (λ (records : List RawRecord). IsCommitted (map raw_of records) (g.J.Journal.synced c.args.journal.now)
     (g.J.Journal.synced c.commit_all.new.journal) (g.J.Journal.text c.commit_all.new.journal) c.args.cursor.now

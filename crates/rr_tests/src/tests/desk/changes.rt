@@ -1,5 +1,6 @@
 //! What a keeper's changes and a reader's cells bring to a copy.
 use rr_cells::Cell;
+use rr_changes::ArchiveChanges;
 use rr_desk::{Keeper, Reader, open};
 use rr_fakes::replicas::minutes;
 use rr_key::SeriesKey;
@@ -22,27 +23,44 @@ fn join(copy: &mut Replica<PackedArchive>, cells: &[Cell]) -> Option<(usize, Opt
     }
 }
 
-/// Joins a keeper's changes into a copy, two at a time, and tells it that they are written. Returns
-/// how many there were.
+/// Joins the cells that are listed of an archive of a series. Returns how many there are.
+fn join_listed(
+    copy: &mut Replica<PackedArchive>,
+    key: &SeriesKey,
+    archive: u8,
+    changes: &ArchiveChanges,
+) -> Option<usize> {
+    for (slot, entry) in changes.cells() {
+        let cell = Cell {
+            key: key.copy().ok()?,
+            archive,
+            slot: *slot,
+            origin: entry.origin,
+            contribution: entry.contribution,
+        };
+        copy.apply_cell(&cell).ok()?;
+    }
+    Some(changes.cells().len())
+}
+
+/// Joins a keeper's changes into a copy, and tells it that they are written. Returns how many there
+/// were.
 fn bring_changes(
     alloc: Global,
     keeper: &mut Keeper<PackedArchive>,
     copy: &mut Replica<PackedArchive>,
 ) -> Option<usize> {
-    let series = keeper.changed_series(alloc).ok()?;
+    let mut changes = ArchiveChanges::new(alloc);
     let mut joined = 0usize;
-    let mut after = None;
-    for _ in 0..20 {
-        let cells = keeper.changes(alloc, &series, after.as_ref(), 2).ok()?;
-        let (count, last) = join(copy, &cells)?;
-        joined = joined.saturating_add(count);
-        after = last;
-        if count < 2 {
-            keeper.changes_written();
-            return Some(joined);
+    for own in keeper.changed_series(alloc).ok()? {
+        for archive in 0..keeper.schema().archives().len() {
+            keeper.list_changes(&mut changes, &own, archive as u8).ok()?;
+            let count = join_listed(copy, &own.key, archive as u8, &changes)?;
+            joined = joined.saturating_add(count);
         }
     }
-    None
+    keeper.changes_written();
+    Some(joined)
 }
 
 /// Joins all that a reader sees into a copy, two cells at a time. Returns how many there were.

@@ -1,4 +1,3 @@
-use Rattle.rr_changes.proofs.BatchLemmas.{batches_are_the_whole, batches_make_the_cells, tracked_changes_make_the_cells}
 use Rattle.rr_changes.proofs.CoveredLemmas.{covered_cells_are_an_update, covered_cells_make_the_cells, periods_are_writes}
 use Rattle.rr_changes.proofs.laws.changes.covered_cells_are_an_update.Goals as goal
 
@@ -7,7 +6,4 @@ returns c = record {
   update = covered_cells_are_an_update;
   makes = covered_cells_make_the_cells;
   periods = periods_are_writes;
-  whole = batches_are_the_whole;
-  batches = batches_make_the_cells;
-  tracked = tracked_changes_make_the_cells;
 }
