@@ -1,5 +1,5 @@
 -- What records make of a replica, by what they mean, and joins of their cells.
-use Rattle.std.proofs.Common.{◌≡◌, ℕ, ◌-◌, Bool, true, false, ◌||◌, List, [], ◌∷◌, ◌++◌, length, map, take, Result, Ok, Err, refl, sym, ap, subst, ◌∙◌}
+use Rattle.std.proofs.Common.{◌≡◌, ℕ, ◌-◌, Bool, true, false, ◌||◌, List, [], ◌∷◌, ◌++◌, length, map, take, Option, None, Some, Result, Ok, Err, refl, sym, ap, subst, ◌∙◌}
 use Rattle.std.specs.Prelude.{nat_le, ◌==◌, if◌then◌else◌}
 use Rattle.std.specs.FinMap.{empty, insert}
 use Rattle.std.specs.List.{flat_map, list_any}
@@ -18,6 +18,7 @@ use Rattle.rr_journal.specs.Text.{Raw, record_len, whole_within}
 use Rattle.rr_journal.proofs.TextLemmas.{prefixes_are_read, synced_is_read}
 use Rattle.rr_recovery.specs.declared.fault.RecoveryFault.{RecoveryFault}
 use Rattle.rr_recovery.specs.declared.fault.RecoveryFault.TheVariants.{OriginUsed}
+use Rattle.rr_recovery.specs.Found.{end_after, last_end}
 use Rattle.rr_recovery.specs.Joining.{cells_of_record, group_cells, with_all}
 use Rattle.rr_recovery.specs.Taking.{Recovery, as_bad, taken, taken_cells, taken_record, taken_records, with_one, with_record}
 use Rattle.rr_recovery.specs.Laws.{Holds, IsHistory, PrefixesMakeTheirMap, RecordsAreTaken, ReplaysAreRepeatable, ReplaysJoin, SyncedIsThere, cells_of_all, is_named, last_map, meanings_of}
@@ -50,10 +51,17 @@ cells_taken x y (e ∷ es) h =
     let b = cells_taken (with_one x e) y es a.1 in
     (ap (λ (t : Bool). t || among x.replica.origin es) a.0 ∙ b.0, b.1)
 
+cells_end : (x y : Recovery) (es : List NamedCell) → taken_cells x es ≡ Ok y → y.found.end ≡ x.found.end
+cells_end x y [] e = let is : x ≡ y = cc e in sym (ap (λ (z : Recovery). z.found.end) is)
+cells_end x y (e ∷ es) h =
+    let a = unless_used (e.0.origin == x.replica.origin) (taken_cells (with_one x e) es) y h in
+    cells_end (with_one x e) y es a.1
+
 -- what a record means, and makes
 pub record IsTaken (x y : Recovery) (m : Meaning) : Type 0 where
   pub unused : is_named x.replica.origin m ≡ false
   pub state : y.replica ≡ with_all x.replica (cells_of_record m)
+  pub end : y.found.end ≡ end_after x.found.end m
 
 or_false : (b : Bool) → b ≡ false → (b || false) ≡ false
 or_false b e = ap (λ (c : Bool). c || false) e
@@ -61,20 +69,30 @@ or_false b e = ap (λ (c : Bool). c || false) e
 same_replica : (x y z : Recovery) → ◌≡◌ {A = Taken} (Ok x) (Ok y) → x.replica ≡ z.replica → y.replica ≡ z.replica
 same_replica x y z e is = let same : x ≡ y = cc e in sym (ap (λ (w : Recovery). w.replica) same) ∙ is
 
+same_end : (x y : Recovery) (o : Option ℕ) → ◌≡◌ {A = Taken} (Ok x) (Ok y) → x.found.end ≡ o → y.found.end ≡ o
+same_end x y o e is = let same : x ≡ y = cc e in sym (ap (λ (w : Recovery). w.found.end) same) ∙ is
+
 meaning_taken : (x y : Recovery) (m : Meaning) → taken x m ≡ Ok y → IsTaken x y m
 meaning_taken x y (HasCells groups) e =
-    let a = cells_taken x y (flat_map group_cells groups) e in record { unused = a.0; state = a.1 }
+    let a = cells_taken x y (flat_map group_cells groups) e in record {
+      unused = a.0;
+      state = a.1;
+      end = cells_end x y (flat_map group_cells groups) e;
+    }
 meaning_taken x y (HasOrigin origin) e =
     let a = unless_used (origin == x.replica.origin) _ y e in
-    record { unused = or_false _ a.0; state = same_replica _ y x a.1 refl }
-meaning_taken x y (HasJoined cursor) e = record { unused = refl; state = same_replica _ y x e refl }
-meaning_taken x y (HasEnded count) e = record { unused = refl; state = same_replica _ y x e refl }
-meaning_taken x y (HasWitness witness) e = record { unused = refl; state = same_replica _ y x e refl }
+    record { unused = or_false _ a.0; state = same_replica _ y x a.1 refl; end = same_end _ y x.found.end a.1 refl }
+meaning_taken x y (HasJoined cursor) e =
+    record { unused = refl; state = same_replica _ y x e refl; end = same_end _ y x.found.end e refl }
+meaning_taken x y (HasEnded count) e =
+    record { unused = refl; state = same_replica _ y x e refl; end = same_end _ y (Some count) e refl }
+meaning_taken x y (HasWitness witness) e =
+    record { unused = refl; state = same_replica _ y x e refl; end = same_end _ y x.found.end e refl }
 
 pub record RecordTaken (x y : Recovery) (r : Raw) : Type 0 where
   pub meaning : Meaning
   pub read : record_meaning x.replica.schema r ≡ Ok meaning
-  pub is : IsTaken x y meaning
+  pub is : IsTaken (with_record x) y meaning
 
 pub record_taken : (x y : Recovery) (r : Raw) → taken_record x r ≡ Ok y → RecordTaken x y r
 record_taken x y r e =
@@ -82,7 +100,7 @@ record_taken x y r e =
     let is = meaning_taken (with_record x) y a.0 a.2 in record {
       meaning = a.0;
       read = as_bad_ok _ a.0 a.1;
-      is = record { unused = is.unused; state = is.state };
+      is = is;
     }
 
 -- ---- what records make
@@ -93,6 +111,7 @@ records_are_taken x y [] e = let is : x ≡ y = cc e in record {
   read = refl;
   unused = refl;
   state = sym (ap (λ (z : Recovery). z.replica) is);
+  end = sym (ap (λ (z : Recovery). z.found.end) is);
 }
 records_are_taken x y (r ∷ rs) e =
     let a = then_ok (taken_record x r) (λ z. taken_records z rs) y e in
@@ -115,6 +134,7 @@ records_are_taken x y (r ∷ rs) e =
           ∙ sym (ap (λ (o : ℕ). list_any (is_named o) others.meanings) origin) ∙ others.unused;
       state = others.state ∙ ap (λ (h : ReplicaState). with_all h (cells_of_all others.meanings)) first.is.state
           ∙ sym (with_all-append x.replica es (cells_of_all others.meanings));
+      end = others.end ∙ ap (λ (o : Option ℕ). last_end o others.meanings) first.is.end;
     }
 
 pub replays_join : ReplaysJoin

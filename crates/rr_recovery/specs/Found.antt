@@ -3,9 +3,10 @@ use Rattle.std.specs.Prelude.{ℕ, ◌+◌, ◌-◌, ◌^◌, nat_eq, min, List,
 use Rattle.std.specs.List.{position}
 use Rattle.std.specs.Cmp.Lexicographic.{pointwise}
 use Rattle.rr_journal.specs.declared.cursor.Cursor.{Cursor}
+use Rattle.rr_journal.specs.Body.{Meaning, HasCells, HasOrigin, HasJoined, HasEnded, HasWitness}
 use Rattle.rr_recovery.specs.declared.found.Found.{Found}
 
--- the last recorded origin, the last cursor of each journal, the number that the last end of a checkpoint states, and
+-- the last recorded origin, the last cursor of each journal, the number that the last record states if it is an end, and
 -- how many records and cells were read
 pub record FoundState : Type 0 where
   pub origin : Option ℕ
@@ -40,12 +41,25 @@ one_more f = record {
   cells = min (f.cells + 1) (2 ^ 64 - 1);
 }
 
--- one more record, likewise
+-- one more record, likewise; an end before it no longer counts
 abbrev pub one_record : FoundState → FoundState
 one_record f = record {
   origin = f.origin;
   cursors = f.cursors;
-  end = f.end;
+  end = None;
   records = min (f.records + 1) (2 ^ 64 - 1);
   cells = f.cells;
 }
+
+-- the number that a record states if it is an end; else what was stated before
+abbrev pub end_after : Option ℕ → Meaning → Option ℕ
+end_after before (HasEnded count) = Some count
+end_after before (HasCells groups) = before
+end_after before (HasOrigin origin) = before
+end_after before (HasJoined cursor) = before
+end_after before (HasWitness witness) = before
+
+-- the count that the last of some records states, if it is an end; without records, what was stated before
+abbrev pub last_end : Option ℕ → List Meaning → Option ℕ
+last_end before [] = before
+last_end before (m ∷ ms) = last_end (end_after None m) ms

@@ -12,6 +12,7 @@ use Rattle.rr_journal.specs.declared.step.TheConstants.{MAX_UNSYNCED}
 use Rattle.rr_journal.specs.Body.{Meaning, HasCells, HasOrigin, HasJoined, HasEnded, HasWitness, record_meaning}
 use Rattle.rr_journal.specs.Reading.{records_of}
 use Rattle.rr_journal.specs.Text.{AllFit, Raw, records_text, whole_within}
+use Rattle.rr_recovery.specs.Found.{last_end}
 use Rattle.rr_recovery.specs.Joining.{cells_of_record, with_all}
 use Rattle.rr_recovery.specs.Taking.{Recovery, taken_records}
 
@@ -36,12 +37,14 @@ origins_of (HasWitness witness) = []
 abbrev pub is_named : ℕ → Meaning → Bool
 is_named origin m = list_any (λ o. o == origin) (origins_of m)
 
--- records that are taken each mean something, none of them names the replica's own origin, and their cells are joined
+-- records that are taken each mean something, none of them names the replica's own origin, and their cells are joined;
+-- of ends only one that is the last record counts
 pub record AreTaken (x y : Recovery) (rs : List Raw) : Type 0 where
   pub meanings : List Meaning
   pub read : meanings_of x.replica.schema rs ≡ Ok meanings
   pub unused : list_any (is_named x.replica.origin) meanings ≡ false
   pub state : y.replica ≡ with_all x.replica (cells_of_all meanings)
+  pub end : y.found.end ≡ last_end x.found.end meanings
 
 abbrev pub RecordsAreTaken : Type 0
 RecordsAreTaken = (x y : Recovery) (rs : List Raw) → taken_records x rs ≡ Ok y → AreTaken x y rs

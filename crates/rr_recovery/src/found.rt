@@ -15,7 +15,7 @@ pub struct Found {
     pub origin: Option<Origin>,
     /// For each journal that was joined, how far.
     pub cursors: Vec<Cursor>,
-    /// How many cells the last checkpoint says it has.
+    /// How many cells the checkpoint has, if the last record is its end.
     pub end: Option<u64>,
     /// How many records were read. It saturates.
     pub records: u64,
@@ -37,15 +37,16 @@ impl Found {
         }
     }
 
-    /// Counts a record.
+    /// Counts a record. An end before it no longer counts.
     pub(crate) fn count_record(&mut self)
         ensures { found_state self.new ≡ one_record (found_state self.old) }
     {
+        self.end = None;
         self.records = self.records.saturating_add(1);
     }
 
-    /// Whether a checkpoint is whole, if only its file was read: its end was found, and states as
-    /// many cells as were read.
+    /// Whether a checkpoint is whole, if only its file was read: its last record is an end, which
+    /// states as many cells as were read.
     pub fn is_whole(&self) -> bool
         ensures { IsTrue result ↔ (self.now.end ≡ Some self.now.cells) }
     {

@@ -2,7 +2,8 @@
 ghost use Rattle.rr_recovery.specs.Laws.{PrefixesMakeTheirMap, RecordsAreTaken, ReplaysAreRepeatable, ReplaysJoin, SyncedIsThere};
 
 /// Records that are taken each have a meaning, none of them names the replica's own origin, and
-/// their cells are joined into what it held, in order.
+/// their cells are joined into what it held, in order. The number of an end is found only if that
+/// is the last of them.
 pub fn replays_join()
     ensures taken { RecordsAreTaken }
     ensures joined { ReplaysJoin }
