@@ -1,5 +1,5 @@
 -- The records of a part, one after the other.
-use Rattle.std.proofs.Common.{◌≡◌, ℕ, ◌^◌, ◌<◌, Bool, true, false, List, [], ◌∷◌, ◌++◌, All, Option, None, Some, IfSome, Result, Ok, Err, ◌⊎◌, inl, inr, refl, sym, ap, ap₂, subst, ◌∙◌, append_assoc, append-nil}
+use Rattle.std.proofs.Common.{◌≡◌, ℕ, ◌^◌, ◌<◌, Bool, true, false, List, [], ◌∷◌, ◌++◌, All, Option, None, Some, IfSome, OnOk, Result, Ok, Err, ◌⊎◌, inl, inr, refl, sym, ap, ap₂, subst, ◌∙◌, append_assoc, append-nil}
 use Rattle.std.proofs.lemmas.List.Elements.{All-append, All-from_recursion}
 use Rattle.rr_text.specs.Results.{◌>>=◌, Gives, GivesUnless}
 use Rattle.rr_schema.specs.Schema.{Layout}
@@ -13,6 +13,7 @@ use Rattle.rr_journal.specs.Body.{Meaning, record_meaning}
 use Rattle.rr_journal.specs.Reading.{followed_by, records_of, stop_of}
 use Rattle.rr_journal.specs.Text.{Raw, after}
 use Rattle.rr_journal.proofs.ReadingLemmas.{one_first}
+use Rattle.rr_recovery.specs.Found.{end_after, last_end}
 use Rattle.rr_recovery.specs.Joining.{cells_of_record}
 use Rattle.rr_recovery.specs.Laws.{cells_of_all, meanings_of}
 use Rattle.rr_recovery.specs.Replaying.{ReadsAll}
@@ -20,7 +21,7 @@ use Rattle.rr_recovery.proofs.ReplayLemmas.{GoesOn, IsAt, ReadsNone, ReadsOne, S
 use Rattle.rr_replication.specs.declared.fault.PartFault.{PartFault}
 use Rattle.rr_replication.specs.declared.fault.PartFault.TheVariants.{Memory}
 use Rattle.rr_replication.proofs.CellLemmas.{cells_append}
-use Rattle.rr_replication.specs.Reading.{Keeps, PeerState, after_part, as_bad, ends_part, is_empty, record_cells, with_records}
+use Rattle.rr_replication.specs.Reading.{Keeps, PeerState, after_part, as_bad, ends_part, is_empty, part_end, record_cells, record_end, with_records}
 
 -- ---- cells that were there
 
@@ -81,6 +82,49 @@ reads_on s had now new fs first r read is rs all h = record {
       ∙ sym (with_first s now r rs) ∙ h.cells;
   not_yet = some_read first r rs all h.not_yet;
 }
+
+-- ---- ends and those of records
+
+abbrev Ends : Type 0
+Ends = Result (Option ℕ) PartFault
+
+abbrev pub with_end : Layout → Option ℕ → List Raw → Ends
+with_end s before rs = as_bad (meanings_of s rs) >>= λ ms. Ok (last_end before ms)
+
+first_end : (s : Layout) (before : Option ℕ) (r : Raw) (rs : List Raw)
+    → with_end s before (r ∷ rs) ≡ (record_end s r >>= λ end. with_end s end rs)
+first_end s before r rs = by_read (record_meaning s r) (meanings_of s rs)
+  where
+    by_read : (first : Result Meaning JournalFault) (others : Result (List Meaning) JournalFault)
+        → ◌≡◌ {A = Ends} (as_bad (first >>= λ m. others >>= λ ms. Ok (m ∷ ms)) >>= λ ms. Ok (last_end before ms))
+        ((as_bad first >>= λ m. Ok (end_after None m)) >>= λ end. as_bad others >>= λ ms. Ok (last_end end ms))
+    by_read (Ok m) (Ok ms) = refl
+    by_read (Ok m) (Err fault) = refl
+    by_read (Err fault) others = refl
+
+-- what the records that are left state last is what all do
+abbrev pub EndsTheSame : Layout → Option ℕ → Option ℕ → List Raw → List Raw → Type 0
+EndsTheSame s before now left all = with_end s now left ≡ with_end s before all
+
+pub ends_on : (s : Layout) (before now new : Option ℕ) (r : Raw) → record_end s r ≡ Ok new
+    → GoesOn (EndsTheSame s before now) (EndsTheSame s before new) r
+ends_on s before now new r read rs all h =
+    sym (ap (λ (x : Ends). x >>= λ end. with_end s end rs) read) ∙ sym (first_end s now r rs) ∙ h
+
+on_ok : {A : Type 0} (r : Result (Unit {0}) PartFault) → A → OnOk r A
+on_ok (Ok t) h = h
+on_ok (Err fault) h = tt
+
+pub end_is : (s : Layout) (place at next : Cursor) (before now : Option ℕ) (old left : Option (List ℕ)) (stop : Stop)
+    (r : Result (Unit {0}) PartFault) → SoFar place at old left (EndsTheSame s before now) → ReadsNone at stop left
+    → next ≡ at → at.offset < 2 ^ 64 → IfSome old (λ bytes. OnOk r (part_end s before place bytes ≡ Ok now))
+end_is s place at next before now None left stop r so_far step is fits = tt
+end_is s place at next before now (Some bytes) None stop r so_far step is fits = absurd (cc so_far.1)
+end_is s place at next before now (Some bytes) (Some all) stop r so_far step is fits =
+    let same : all ≡ so_far.0 = cc so_far.1 in
+    let h = subst (λ (l : List ℕ). IsAt place at bytes l (EndsTheSame s before now)) (sym same) so_far.2 in
+    let ends = all_read place at next bytes all stop (EndsTheSame s before now) h step is fits in
+    on_ok r (sym ends.0)
 
 -- ---- at the end
 

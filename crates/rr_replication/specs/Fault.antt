@@ -19,5 +19,6 @@ peer_fault_name peer.Ended = codes "Ended"
 peer_fault_name peer.BadAnswer = codes "BadAnswer"
 peer_fault_name peer.SchemaDiffers = codes "SchemaDiffers"
 peer_fault_name peer.Gone = codes "Gone"
+peer_fault_name peer.NotWhole = codes "NotWhole"
 peer_fault_name (peer.Part fault) = part_fault_name fault
 peer_fault_name peer.Memory = codes "Memory"

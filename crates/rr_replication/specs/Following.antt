@@ -1,5 +1,5 @@
 -- How a node reads on in the store of a peer.
-use Rattle.std.specs.Prelude.{◌≡◌, ℕ, ◌==◌, ◌||◌, nat_eq, Bool, true, false, List, take, drop, Option, None, Some, IfSome, unwrap_or, Result, Ok}
+use Rattle.std.specs.Prelude.{◌≡◌, ℕ, ◌-◌, ◌==◌, ◌||◌, nat_eq, Bool, true, false, List, length, take, drop, Option, None, Some, IfSome, unwrap_or, Result, Ok, Err}
 use Rattle.std.specs.Cmp.Lexicographic.{pointwise}
 use Rattle.std.specs.List.{find}
 use Rattle.rr_text.specs.Results.{GivesUnless}
@@ -18,10 +18,13 @@ use Rattle.rr_replication.specs.declared.following.Next.TheVariants.{More, UpToD
 use Rattle.rr_replication.specs.declared.pace.Reached.{Reached}
 use Rattle.rr_replication.specs.declared.pace.Reached.TheVariants as pace
 use Rattle.rr_replication.specs.declared.peer_fault.PeerFault.{PeerFault}
+use Rattle.rr_replication.specs.declared.peer_fault.PeerFault.TheVariants.{NotWhole}
 use Rattle.rr_replication.specs.declared.position.Position.{Position}
 use Rattle.rr_replication.specs.declared.position.Position.TheVariants.{Journal, Newest, Checkpoint}
+use Rattle.rr_replication.specs.declared.tally.Tally.{Tally}
 use Rattle.rr_replication.specs.Position.{greeting_target, target_of}
 use Rattle.rr_replication.specs.Reading.{PeerState, after_part, peer_state}
+use Rattle.rr_replication.specs.Tally.{IsTallied, is_whole, no_tally}
 
 -- a part is read from a place on, and the answer is the place behind it
 abbrev pub ReadsOn : Layout → PeerState → List Cell → List ℕ → Result Cursor PartFault → Type 0
@@ -48,7 +51,7 @@ pub record GreetsAnew (old new : Following) : Type 0 where
 -- whether a checkpoint is being read, or the newest one is to be
 abbrev pub is_in_checkpoint : Option Position → Bool
 is_in_checkpoint (Some Newest) = true
-is_in_checkpoint (Some (Checkpoint begins place)) = true
+is_in_checkpoint (Some (Checkpoint begins place tally)) = true
 is_in_checkpoint (Some (Journal place)) = false
 is_in_checkpoint None = false
 
@@ -57,7 +60,7 @@ abbrev pub reached_by : Option Position → Option Reached
 reached_by None = None
 reached_by (Some (Journal place)) = Some (pace.Journal place.offset)
 reached_by (Some Newest) = Some (pace.Checkpoint 0)
-reached_by (Some (Checkpoint begins place)) = Some (pace.Checkpoint place.offset)
+reached_by (Some (Checkpoint begins place tally)) = Some (pace.Checkpoint place.offset)
 
 -- ---- what is asked for
 
@@ -84,7 +87,7 @@ asked_position f = position_by f.is_greeted f.position
 abbrev pub place_by : Bool → Option Position → Option Cursor
 place_by true (Some (Journal place)) = Some place
 place_by true (Some Newest) = None
-place_by true (Some (Checkpoint begins place)) = None
+place_by true (Some (Checkpoint begins place tally)) = None
 place_by true None = None
 place_by false position = None
 
@@ -114,7 +117,7 @@ after_journal place UpToDate = Journal place
 abbrev pub newest_by : Bool → Option Position → Bool
 newest_by true (Some Newest) = true
 newest_by true (Some (Journal place)) = false
-newest_by true (Some (Checkpoint begins place)) = false
+newest_by true (Some (Checkpoint begins place tally)) = false
 newest_by true None = false
 newest_by false position = false
 
@@ -126,49 +129,63 @@ abbrev pub FileBegins : Layout → List ℕ → Cursor → Type 0
 FileBegins s bytes begins = (rest : List ℕ) × (header_at s (take (header_len s) bytes) ≡ Ok (begins, rest))
 
 -- a checkpoint was begun: the header of its file says where it begins in the journal with this id, the rest was read as
--- a part from there on, and the node is past that part; the journal is read no further
+-- a part from there on, and the node is past that part, which is all that was read of it; the journal is read no further
 pub record IsBegun (s : Layout) (id : List ℕ) (had : List Cell) (bytes : List ℕ) (cells : List Cell)
     (position : Option Position) (next : Next) : Type 0 where
   pub begins : Cursor
   pub end : Cursor
   pub header : FileBegins s bytes begins
   pub of_peer : begins.id ≡ id
+  pub tally : Tally
   pub read : after_part s (peer_state begins had) (drop (header_len s) bytes) ≡ Ok (peer_state end cells)
-  pub position_is : position ≡ Some (Checkpoint begins end)
+  pub tallied : IsTallied s no_tally begins (drop (header_len s) bytes) (length cells - length had) tally
+  pub position_is : position ≡ Some (Checkpoint begins end tally)
   pub next_is : next ≡ More None
 
--- where the checkpoint being read begins, and how far it is read, if there is one
-abbrev pub checkpoint_by : Bool → Option Position → Option (Cursor × Cursor)
-checkpoint_by true (Some (Checkpoint begins place)) = Some (begins, place)
+-- where the checkpoint being read begins, how far it is read, and what was read of it, if there is one
+abbrev pub checkpoint_by : Bool → Option Position → Option (Cursor × Cursor × Tally)
+checkpoint_by true (Some (Checkpoint begins place tally)) = Some (begins, place, tally)
 checkpoint_by true (Some Newest) = None
 checkpoint_by true (Some (Journal place)) = None
 checkpoint_by true None = None
 checkpoint_by false position = None
 
-abbrev pub asked_checkpoint : Following → Option (Cursor × Cursor)
+abbrev pub asked_checkpoint : Following → Option (Cursor × Cursor × Tally)
 asked_checkpoint f = checkpoint_by f.is_greeted f.position
 
 -- a part of it was read from there on, and the node is past that part
-pub record IsReadOn (s : Layout) (at : Cursor × Cursor) (had : List Cell) (bytes : List ℕ) (cells : List Cell)
+pub record IsReadOn (s : Layout) (at : Cursor × Cursor × Tally) (had : List Cell) (bytes : List ℕ) (cells : List Cell)
     (position : Option Position) (next : Next) : Type 0 where
   pub end : Cursor
+  pub tally : Tally
   pub read : after_part s (peer_state at.1 had) bytes ≡ Ok (peer_state end cells)
-  pub position_is : position ≡ Some (Checkpoint at.0 end)
+  pub tallied : IsTallied s at.2 at.1 bytes (length cells - length had) tally
+  pub position_is : position ≡ Some (Checkpoint at.0 end tally)
   pub next_is : next ≡ More None
 
--- the checkpoint has no more: no cells were added, and the journal is read on from where the checkpoint begins
-pub record IsAtEnd (at : Cursor × Cursor) (had cells : List Cell) (position : Option Position)
+-- behind the last part of a checkpoint: if it is whole, the journal is read on from where the checkpoint begins; if not,
+-- it is refused, and the newest one is asked for
+abbrev pub position_behind : Bool → Cursor → Position
+position_behind true begins = Journal begins
+position_behind false begins = Newest
+
+abbrev pub next_behind : Bool → Cursor → Result Next PeerFault
+next_behind true begins = Ok (More (Some begins))
+next_behind false begins = Err NotWhole
+
+-- the checkpoint has no more, and no cells were added
+pub record IsAtEnd (at : Cursor × Cursor × Tally) (had cells : List Cell) (position : Option Position)
     (result : Result Next PeerFault) : Type 0 where
   pub same : cells ≡ had
-  pub position_is : position ≡ Some (Journal at.0)
-  pub result_is : result ≡ Ok (More (Some at.0))
+  pub position_is : position ≡ Some (position_behind (is_whole at.2) at.0)
+  pub result_is : result ≡ next_behind (is_whole at.2) at.0
 
 -- ---- a peer that has lost what is asked for
 
 -- whether bytes from a place on are asked for, of the journal or of a checkpoint
 abbrev pub part_by : Bool → Option Position → Bool
 part_by true (Some (Journal place)) = true
-part_by true (Some (Checkpoint begins place)) = true
+part_by true (Some (Checkpoint begins place tally)) = true
 part_by true (Some Newest) = false
 part_by true None = false
 part_by false position = false
@@ -182,7 +199,7 @@ pub record IsGone (f : Following) (answer : PeerAnswer) : Type 0 where
 -- begun if bytes are gone, and the journal is continued by any other answer of it
 abbrev pub beginning_by : Bool → Option Position → ℕ → Bool → Bool
 beginning_by true (Some (Journal place)) status was = status == 410
-beginning_by true (Some (Checkpoint begins place)) status was = was || status == 410
+beginning_by true (Some (Checkpoint begins place tally)) status was = was || status == 410
 beginning_by true (Some Newest) status was = was
 beginning_by true None status was = was
 beginning_by false position status was = was
@@ -200,7 +217,7 @@ known_place known id = unwrap_or (find (λ c. pointwise nat_eq c.id id) known) (
 abbrev pub places_by : List Cursor → Option Position → List Cursor
 places_by known (Some (Journal place)) = with_cursor known place
 places_by known (Some Newest) = known
-places_by known (Some (Checkpoint begins place)) = known
+places_by known (Some (Checkpoint begins place tally)) = known
 places_by known None = known
 
 abbrev pub places_of : Following → List Cursor

@@ -1,5 +1,5 @@
 -- The laws of parts.
-use Rattle.std.specs.Prelude.{◌≡◌, ℕ, zero, suc, ◌+◌, ◌-◌, ◌^◌, ◌<◌, ◌≤◌, List, [], ◌∷◌, ◌++◌, length, drop, take, Result, Ok}
+use Rattle.std.specs.Prelude.{◌≡◌, ℕ, zero, suc, ◌+◌, ◌-◌, ◌^◌, ◌<◌, ◌≤◌, List, [], ◌∷◌, ◌++◌, length, drop, take, Option, None, Result, Ok}
 use Rattle.std.specs.FinMap.{empty}
 use Rattle.std.specs.List.{flat_map}
 use Rattle.rr_text.specs.Results.{◌>>=◌}
@@ -11,6 +11,7 @@ use Rattle.rr_journal.specs.declared.cursor.Cursor.{Cursor}
 use Rattle.rr_journal.specs.Body.{Meaning}
 use Rattle.rr_journal.specs.Cursor.{behind_all}
 use Rattle.rr_journal.specs.Text.{AllFit, Raw, chain, record_len, records_len, records_text, whole_within}
+use Rattle.rr_recovery.specs.Found.{end_after, last_end}
 use Rattle.rr_recovery.specs.Laws.{Holds, meanings_of}
 use Rattle.rr_replication.specs.declared.fault.PartFault.{PartFault}
 use Rattle.rr_replication.specs.Files.{bytes_of, offsets}
@@ -99,3 +100,15 @@ abbrev pub WhatIsJoinedIsHeld : Type 0
 WhatIsJoinedIsHeld =
     (s : Layout) (m : Cells) (es : List NamedCell) → IsLayout s → IsTrimmed s m
     → Holds s (join_cells s m es) (join_cells s empty es)
+
+-- ---- where a checkpoint ends
+
+-- the number of an end counts only if that is the last record, whatever comes before; and what the records of one part
+-- after the other state last is what all of them do
+abbrev pub OnlyTheLastEnds : Type 0
+OnlyTheLastEnds =
+    (before : Option ℕ) (ms : List Meaning) (m : Meaning) → last_end before (ms ++ m ∷ []) ≡ end_after None m
+
+abbrev pub PartsEndAsOne : Type 0
+PartsEndAsOne =
+    (before : Option ℕ) (ms ns : List Meaning) → last_end before (ms ++ ns) ≡ last_end (last_end before ms) ns

@@ -2,6 +2,7 @@ pub mod Fault
 pub mod Part
 pub mod Reading
 pub mod Position
+pub mod Tally
 pub mod Following
 pub mod Files
 pub mod Laws

@@ -1,9 +1,14 @@
 -- How long to wait before a peer that can't be followed is called again.
-use Rattle.std.specs.Prelude.{ℕ, ◌*◌, nat_le, Option, None, Some, max, min, if◌then◌else◌}
+use Rattle.std.specs.Prelude.{ℕ, ◌*◌, ◌-◌, nat_le, Option, None, Some, max, min, if◌then◌else◌}
 use Rattle.rr_replication.specs.declared.pace.Pace.{Pace}
 use Rattle.rr_replication.specs.declared.pace.Reached.{Reached}
 use Rattle.rr_replication.specs.declared.pace.Reached.TheVariants.{Journal, Checkpoint}
 use Rattle.rr_replication.specs.declared.pace.TheConstants.{LONGEST_PAUSE}
+
+-- how many bytes of a journal that ends there aren't read yet: while a checkpoint is read, all, and at least one
+abbrev pub lag_at : Reached → ℕ → ℕ
+lag_at (Journal offset) end = end - offset
+lag_at (Checkpoint offset) end = max end 1
 
 -- the farther of a place at which following failed before, and one at which it fails now
 abbrev pub failed_at : Option ℕ → ℕ → Option ℕ

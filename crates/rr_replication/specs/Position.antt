@@ -23,5 +23,5 @@ unfoldable pub target_of : Layout → Position → List ℕ
 target_of s (Journal place) =
     codes "/journal?id=" ++ encode_lower place.id ++ codes "&from=" ++ decimal place.offset
 target_of s Newest = codes "/checkpoint?from=0"
-target_of s (Checkpoint begins place) =
+target_of s (Checkpoint begins place tally) =
     codes "/checkpoint?begins=" ++ decimal begins.offset ++ codes "&from=" ++ decimal (byte_of s begins place)

@@ -1,5 +1,5 @@
 -- What a peer makes of a part of a journal.
-use Rattle.std.specs.Prelude.{◌≡◌, Bool, true, false, List, [], ◌∷◌, ◌++◌, map, Result, Ok, Err, ℕ, if◌then◌else◌}
+use Rattle.std.specs.Prelude.{◌≡◌, Bool, true, false, List, [], ◌∷◌, ◌++◌, map, Option, None, Result, Ok, Err, ℕ, if◌then◌else◌}
 use Rattle.std.specs.List.{AllByRecursion}
 use Rattle.rr_text.specs.Results.{◌>>=◌, GivesUnless}
 use Rattle.rr_schema.specs.Schema.{Layout}
@@ -14,6 +14,7 @@ use Rattle.rr_journal.specs.Body.{Meaning, record_meaning}
 use Rattle.rr_journal.specs.Cursor.{behind_all}
 use Rattle.rr_journal.specs.Reading.{records_of, stop_of}
 use Rattle.rr_journal.specs.Text.{Raw}
+use Rattle.rr_recovery.specs.Found.{end_after, last_end}
 use Rattle.rr_recovery.specs.Joining.{cells_of_record}
 use Rattle.rr_recovery.specs.Laws.{cells_of_all, meanings_of}
 use Rattle.rr_replication.specs.declared.fault.PartFault.{PartFault}
@@ -29,6 +30,10 @@ as_bad (Err fault) = Err (part.BadRecord fault)
 -- what a record means, as its cells
 abbrev pub record_cells : Layout → Raw → Result (List NamedCell) PartFault
 record_cells s r = as_bad (record_meaning s r) >>= λ m. Ok (cells_of_record m)
+
+-- the number that it states if it is an end
+abbrev pub record_end : Layout → Raw → Result (Option ℕ) PartFault
+record_end s r = as_bad (record_meaning s r) >>= λ m. Ok (end_after None m)
 
 -- cells of a schema
 abbrev pub AreCellsOf : Layout → List Cell → Type 0
@@ -81,3 +86,7 @@ abbrev pub after_part : Layout → PeerState → List ℕ → Result PeerState P
 after_part s x bytes =
     as_bad (meanings_of s (records_in x.place bytes)) >>= λ ms. ends_part (stop_of x.place.digest bytes)
     (is_empty (records_in x.place bytes)) >>= λ end. Ok (with_records x (records_in x.place bytes) ms)
+
+-- the count that the last whole record of a part states, if it is an end; without a whole record, what was stated before
+abbrev pub part_end : Layout → Option ℕ → Cursor → List ℕ → Result (Option ℕ) PartFault
+part_end s before place bytes = as_bad (meanings_of s (records_in place bytes)) >>= λ ms. Ok (last_end before ms)

@@ -6,7 +6,7 @@ ghost use Rattle.rr_journal.specs.Body.{meaning_of, packed_cells, record_meaning
 ghost use Rattle.rr_journal.specs.Text.{raw_of};
 ghost use Rattle.rr_recovery.specs.Joining.{group_cells, named_by};
 ghost use Rattle.rr_recovery.specs.Taking.{IsCheckedGroup};
-ghost use Rattle.rr_replication.specs.Reading.{Adds, as_bad, record_cells};
+ghost use Rattle.rr_replication.specs.Reading.{Adds, as_bad, record_cells, record_end};
 ghost use Rattle.rr_text.specs.Results.{GivesUnless};
 
 use crate::fault::PartFault;
@@ -72,18 +72,23 @@ fn meaning_of(alloc: Global, raw: &RawRecord, schema: &Schema) -> Result<Record,
 }
 
 /// Appends the cells of a record, in order, or refuses one that means nothing. An origin, a cursor,
-/// an end and a witness have none.
+/// an end and a witness have none. The result is the number that an end states.
 pub(crate) fn push_record(
     alloc: Global,
     raw: &RawRecord,
     schema: &Schema,
     cells: &mut Vec<Cell>,
-) -> Result<(), PartFault>
-    ensures { Adds schema.now cells.old.items cells.new.items
+) -> Result<Option<u64>, PartFault>
+    ensures cells { Adds schema.now cells.old.items cells.new.items
         (record_cells schema.now (raw_of raw.now)) result }
+    ensures end { IfOk result (λ end. record_end schema.now (raw_of raw.now) ≡ Ok end) }
 {
     match meaning_of(alloc, raw, schema)? {
-        Record::Cells(groups) => push_groups(&groups, schema, cells),
-        Record::Origin(_) | Record::Cursor(_) | Record::End(_) | Record::Witness(_) => Ok(()),
+        Record::Cells(groups) => {
+            push_groups(&groups, schema, cells)?;
+            Ok(None)
+        }
+        Record::End(count) => Ok(Some(count)),
+        Record::Origin(_) | Record::Cursor(_) | Record::Witness(_) => Ok(None),
     }
 }

@@ -11,12 +11,13 @@ ghost use Rattle.rr_replication.specs.Reading.{peer_state};
 use crate::answer::PeerAnswer;
 use crate::fault::PartFault;
 use crate::pace::Reached;
-use crate::peer_fault::PeerFault;
+use crate::peer_fault::{PeerFault, header_fault, status_fault};
 use crate::position::{Position, greeting_target};
 use crate::records::read_part;
+use crate::tally::{Tally, read_tallied};
 use rr_cells::Cell;
 use rr_io::Counted;
-use rr_journal::{Cursor, ID_LEN, JournalFault, header_from, header_len};
+use rr_journal::{Cursor, ID_LEN, header_from, header_len};
 use rr_recovery::put_cursor;
 use rr_schema::Schema;
 use std::alloc::{AllocError, Global};
@@ -68,23 +69,6 @@ fn read_on(
     let mut end = place;
     read_part(alloc, bytes, &mut end, schema, cells)?;
     Ok(end)
-}
-
-/// Why the beginning of a checkpoint's file is refused.
-fn header_fault(fault: JournalFault) -> PeerFault {
-    match fault {
-        JournalFault::Memory => PeerFault::Memory,
-        JournalFault::SchemaDiffers | JournalFault::BadDecimals => PeerFault::SchemaDiffers,
-        _ => PeerFault::BadAnswer,
-    }
-}
-
-/// The fault of any other status: another schema, or an answer that no node gives.
-fn status_fault(status: u16) -> PeerFault {
-    match status {
-        409 => PeerFault::SchemaDiffers,
-        _ => PeerFault::BadAnswer,
-    }
 }
 
 /// The first of these cursors that is of the journal with this id.
@@ -292,24 +276,31 @@ impl Following {
             return Err(PeerFault::BadAnswer);
         }
         let records = &answer.body[header_len(schema).min(answer.body.len())..];
-        let place = read_on(self.alloc, records, begins, schema, cells)?;
-        self.position = Some(Position::Checkpoint { begins, place });
+        let before = Tally::new();
+        let (place, tally) = read_tallied(self.alloc, records, begins, before, schema, cells)?;
+        self.position = Some(Position::Checkpoint {
+            begins,
+            place,
+            tally,
+        });
         Ok(Next::More { read: None })
     }
 
-    /// Takes an answer to a request for a checkpoint, after which the journal is continued.
+    /// Takes an answer to a request for a checkpoint, after which the journal is continued if all of
+    /// it was read.
     fn take_checkpoint(
         &mut self,
         begins: Cursor,
         place: Cursor,
+        tally: Tally,
         answer: &PeerAnswer,
         schema: &Schema,
         cells: &mut Vec<Cell>,
     ) -> Result<Next, PeerFault>
-        ensures part { answer.now.status ≡ 200 → IfOk result (IsReadOn schema.now (begins, place)
-            cells.old.items answer.now.body.items cells.new.items self.new.position) }
-        ensures end { answer.now.status ≡ 204 → IsAtEnd (begins, place) cells.old.items cells.new.items
-            self.new.position result }
+        ensures part { answer.now.status ≡ 200 → IfOk result (IsReadOn schema.now
+            (begins, place, tally) cells.old.items answer.now.body.items cells.new.items self.new.position) }
+        ensures end { answer.now.status ≡ 204 → IsAtEnd (begins, place, tally) cells.old.items
+            cells.new.items self.new.position result }
         ensures peer { self.new.id ≡ self.old.id }
         ensures beginning { IfOk result (λ next. self.new.is_beginning
             ≡ (self.old.is_beginning || answer.now.status == 410)) }
@@ -320,16 +311,24 @@ impl Following {
     {
         match answer.status {
             200 => {}
-            204 => {
+            204 if tally.is_whole() => {
                 self.position = Some(Position::Journal(begins));
                 return Ok(Next::More { read: Some(begins) });
+            }
+            204 => {
+                self.position = Some(Position::Newest);
+                return Err(PeerFault::NotWhole);
             }
             410 => return self.begin_again(),
             status => return Err(status_fault(status)),
         }
-        match read_on(self.alloc, &answer.body, place, schema, cells) {
-            Ok(place) => {
-                self.position = Some(Position::Checkpoint { begins, place });
+        match read_tallied(self.alloc, &answer.body, place, tally, schema, cells) {
+            Ok((place, tally)) => {
+                self.position = Some(Position::Checkpoint {
+                    begins,
+                    place,
+                    tally,
+                });
                 Ok(Next::More { read: None })
             }
             Err(fault) => {
@@ -342,14 +341,16 @@ impl Following {
     /// Takes the answer to the last request, which [`Following::target`] gave, and appends its
     /// cells to `cells`. If bytes of the journal were asked for, they are those of a part that was
     /// given from its place on, as [`read_part`] reads one. So are those of a checkpoint, from
-    /// where it begins on, after the header of its file; at its end the journal is continued from
-    /// there.
+    /// where it begins on, after the header of its file; once all of it was read, the journal is
+    /// continued from there.
     ///
     /// Refused as `SchemaDiffers` by the peer; as `Gone` if it has neither the journal from here on
     /// nor a checkpoint, or loses what is asked for again after a checkpoint was begun and before
-    /// the journal was continued; as [`PartFault`] says if its bytes don't continue from here or
-    /// mean nothing: then the newest checkpoint is asked for next; as `BadAnswer` if no node
-    /// answers so, as with 200 and no byte; and as `Memory`. After a refusal no cells are added.
+    /// the journal was continued; as `NotWhole` if a checkpoint's last record isn't its end, or states
+    /// another number of cells than came; as [`PartFault`] says if its bytes don't continue from here
+    /// or mean nothing; as `BadAnswer` if no node answers so, as with 200 and no byte; and as
+    /// `Memory`. After `NotWhole` or a `PartFault` the newest checkpoint is asked for next. After a
+    /// refusal no cells are added.
     pub fn take(
         &mut self,
         answer: &PeerAnswer,
@@ -386,9 +387,11 @@ impl Following {
             Some(position) if self.is_greeted => match position {
                 Position::Journal(place) => self.take_journal(place, answer, schema, cells),
                 Position::Newest => self.take_newest(answer, schema, cells),
-                Position::Checkpoint { begins, place } => {
-                    self.take_checkpoint(begins, place, answer, schema, cells)
-                }
+                Position::Checkpoint {
+                    begins,
+                    place,
+                    tally,
+                } => self.take_checkpoint(begins, place, tally, answer, schema, cells),
             },
             _ => self.take_greeting(answer),
         }

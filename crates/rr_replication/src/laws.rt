@@ -1,6 +1,6 @@
 //! The laws of parts: functions with empty bodies, whose contracts state them.
 ghost use Rattle.rr_replication.specs.Files.{PartsAreWithin, PartsComeToTheEnd};
-ghost use Rattle.rr_replication.specs.Laws.{PartsAreTaken, PartsBringTheRecords, PeersCatchUp, WhatIsJoinedIsHeld};
+ghost use Rattle.rr_replication.specs.Laws.{OnlyTheLastEnds, PartsAreTaken, PartsBringTheRecords, PartsEndAsOne, PeersCatchUp, WhatIsJoinedIsHeld};
 
 /// A part with a whole record is taken, if each of its whole records means something. Whoever reads
 /// parts in succession has the cells of all records up to its place, wherever the parts end.
@@ -25,4 +25,11 @@ pub fn peers_catch_up()
 /// A map that the cells of records are joined to holds all that these records say.
 pub fn what_is_joined_is_held()
     ensures { WhatIsJoinedIsHeld }
+{}
+
+/// A checkpoint ends with an end only if that is its last record, and whoever reads it part by part
+/// is told the same as who reads it at once.
+pub fn only_a_last_end_counts()
+    ensures last { OnlyTheLastEnds }
+    ensures parts { PartsEndAsOne }
 {}

@@ -38,6 +38,7 @@ mod part;
 mod peer_fault;
 mod position;
 mod records;
+mod tally;
 
 pub use answer::{END_FIELD, ID_FIELD, PeerAnswer};
 pub use connection::PeerConnection;
@@ -48,3 +49,4 @@ pub use part::{MAX_PART, Part, part_from};
 pub use peer_fault::PeerFault;
 pub use position::Position;
 pub use records::read_part;
+pub use tally::Tally;

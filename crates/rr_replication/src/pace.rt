@@ -1,7 +1,7 @@
 //! How long to wait before a peer that can't be followed is called again.
 
 ghost use Rattle.std.specs.Prelude.{◌≡◌};
-ghost use Rattle.rr_replication.specs.Pace.{failed_at, left_at};
+ghost use Rattle.rr_replication.specs.Pace.{failed_at, lag_at, left_at};
 
 /// The longest pause in seconds.
 pub const LONGEST_PAUSE: u64 = 64;
@@ -15,6 +15,19 @@ pub enum Reached {
     Journal(u64),
     /// At an offset of a checkpoint's records, or before its beginning.
     Checkpoint(u64),
+}
+
+impl Reached {
+    /// How many bytes of a journal that ends at `end` aren't read yet. While a checkpoint is read,
+    /// all of them count, and at least one.
+    pub fn lag(&self, end: u64) -> u64
+        ensures { result ≡ lag_at self.now end }
+    {
+        match self {
+            Reached::Journal(offset) => end.saturating_sub(*offset),
+            Reached::Checkpoint(_) => end.max(1),
+        }
+    }
 }
 
 /// How long to wait before a peer that can't be followed is called again: 1 second, then 2, 4 and

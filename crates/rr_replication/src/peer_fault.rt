@@ -3,6 +3,7 @@
 ghost use Rattle.std.specs.Prelude.{◌≡◌};
 
 use crate::fault::PartFault;
+use rr_journal::JournalFault;
 use std::alloc::{AllocError, AllocFailed};
 use std::fmt;
 use thiserror::Error;
@@ -24,6 +25,8 @@ pub enum PeerFault {
     SchemaDiffers,
     /// It has neither the journal from this node's place on nor a checkpoint.
     Gone,
+    /// Its checkpoint doesn't end with its end, or has another number of cells than that states.
+    NotWhole,
     /// What it gave is refused.
     Part(PartFault),
     /// Memory ran out.
@@ -45,6 +48,7 @@ impl PeerFault {
             PeerFault::BadAnswer => "BadAnswer",
             PeerFault::SchemaDiffers => "SchemaDiffers",
             PeerFault::Gone => "Gone",
+            PeerFault::NotWhole => "NotWhole",
             PeerFault::Part(fault) => fault.name(),
             PeerFault::Memory => "Memory",
         }
@@ -60,6 +64,7 @@ impl PeerFault {
             PeerFault::BadAnswer => "the peer answers what no node does",
             PeerFault::SchemaDiffers => "the peer has another schema",
             PeerFault::Gone => "the peer has neither the journal nor a checkpoint",
+            PeerFault::NotWhole => "the peer's checkpoint isn't whole",
             PeerFault::Part(_) => "what the peer gave is refused",
             PeerFault::Memory => "out of memory",
         }
@@ -99,5 +104,22 @@ impl From<PartFault> for PeerFault {
 
     fn from(fault: PartFault) -> PeerFault {
         PeerFault::Part(fault)
+    }
+}
+
+/// Why the beginning of a checkpoint's file is refused.
+pub(crate) fn header_fault(fault: JournalFault) -> PeerFault {
+    match fault {
+        JournalFault::Memory => PeerFault::Memory,
+        JournalFault::SchemaDiffers | JournalFault::BadDecimals => PeerFault::SchemaDiffers,
+        _ => PeerFault::BadAnswer,
+    }
+}
+
+/// The fault of any other status: another schema, or an answer that no node gives.
+pub(crate) fn status_fault(status: u16) -> PeerFault {
+    match status {
+        409 => PeerFault::SchemaDiffers,
+        _ => PeerFault::BadAnswer,
     }
 }

@@ -4,6 +4,7 @@ ghost use Rattle.std.specs.Prelude.{◌≡◌, ◌++◌, codes, IfOk, OnOk};
 ghost use Rattle.std.specs.Fmt.{decimal};
 ghost use Rattle.rr_replication.specs.Position.{byte_of, greeting_target, target_of};
 
+use crate::tally::Tally;
 use itoa::Buffer;
 use rr_journal::{Cursor, DECIMALS, header_len};
 use rr_schema::Schema;
@@ -22,6 +23,8 @@ pub enum Position {
         begins: Cursor,
         /// How far its records are read, as if they were the journal's from there on.
         place: Cursor,
+        /// What was read of it.
+        tally: Tally,
     },
 }
 
@@ -70,7 +73,7 @@ impl Position {
                 push_number(&mut text, place.offset)?;
             }
             Position::Newest => text.extend_from_slice(b"/checkpoint?from=0")?,
-            Position::Checkpoint { begins, place } => {
+            Position::Checkpoint { begins, place, .. } => {
                 text.extend_from_slice(b"/checkpoint?begins=")?;
                 push_number(&mut text, begins.offset)?;
                 text.extend_from_slice(b"&from=")?;

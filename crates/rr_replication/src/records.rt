@@ -1,10 +1,10 @@
 //! What a peer makes of a part.
-ghost use Rattle.std.specs.Prelude.{◌≡◌, ◌<◌, ◌^◌, All, IfErr, IfSome, OnErr, OnOk};
+ghost use Rattle.std.specs.Prelude.{◌≡◌, ◌<◌, ◌^◌, All, IfErr, IfOk, IfSome, Ok, OnErr, OnOk};
 ghost use Rattle.rr_cells.specs.CellBounds.{IsCellOf};
 ghost use Rattle.rr_cells.specs.Listing.{owned_cell};
 ghost use Rattle.rr_io.specs.Counted.{inner_of};
 ghost use Rattle.rr_journal.specs.Stream.{MovesBy, StepsTo};
-ghost use Rattle.rr_replication.specs.Reading.{Keeps, ends_part, peer_state, after_part};
+ghost use Rattle.rr_replication.specs.Reading.{Keeps, ends_part, part_end, peer_state, after_part};
 ghost use Rattle.rr_text.specs.Results.{Gives, GivesUnless};
 
 use crate::cells::push_record;
@@ -51,23 +51,27 @@ fn check_end(stop: Stop, is_first: bool) -> Result<(), PartFault>
 }
 
 /// Appends the cells of the records at a place, and moves the place past the last of these records.
+/// `end` is then the number that this one states if it is an end.
 fn read_records<R: Read>(
     alloc: Global,
     input: &mut Counted<R>,
     place: &mut Cursor,
     schema: &Schema,
     cells: &mut Vec<Cell>,
+    end: &mut Option<u64>,
 ) -> Result<(), PartFault>
     ensures read { IfSome (R.remaining (inner_of input.old)) (λ bytes.
         GivesUnless PartFault.Memory (λ _. peer_state place.new cells.new.items) result
         (after_part schema.now (peer_state place.old cells.old.items) bytes)) }
     ensures kept { Keeps schema.now cells.old.items cells.new.items }
+    ensures end { IfSome (R.remaining (inner_of input.old)) (λ bytes. OnOk result
+        (part_end schema.now end.old place.old bytes ≡ Ok end.new)) }
 {
     let mut is_first = true;
     for _ in 0..u64::MAX {
         match step_from(alloc, input, place)? {
             Step::Whole(raw) => {
-                push_record(alloc, &raw, schema, cells)?;
+                *end = push_record(alloc, &raw, schema, cells)?;
                 is_first = false;
             }
             Step::Stopped(stop) => return check_end(stop, is_first),
@@ -75,6 +79,45 @@ fn read_records<R: Read>(
     }
     // No slice has that many records.
     Err(PartFault::Memory)
+}
+
+/// Reads a part like [`read_part`]. `end` is then the number that the last whole record of all parts
+/// states if it is an end: after a part without a whole record it stays.
+pub(crate) fn read_to_end(
+    alloc: Global,
+    bytes: &[u8],
+    place: &mut Cursor,
+    schema: &Schema,
+    cells: &mut Vec<Cell>,
+    end: &mut Option<u64>,
+) -> Result<(), PartFault>
+    ensures read { GivesUnless PartFault.Memory (λ _. peer_state place.new cells.new.items) result
+        (after_part schema.now (peer_state place.old cells.old.items) bytes.now) }
+    ensures of_schema { OnOk result (All (λ c. IsCellOf schema.now (owned_cell c)) cells.old.items
+        → All (λ c. IsCellOf schema.now (owned_cell c)) cells.new.items) }
+    ensures end { OnOk result (part_end schema.now end.old place.old bytes.now ≡ Ok end.new) }
+    ensures place { OnErr result (place.new ≡ place.old) }
+    ensures cells { OnErr result (cells.new.items ≡ cells.old.items) }
+{
+    let had = cells.len();
+    let mut next = *place;
+    match read_records(
+        alloc,
+        &mut Counted::new(bytes),
+        &mut next,
+        schema,
+        cells,
+        end,
+    ) {
+        Ok(()) => {
+            *place = next;
+            Ok(())
+        }
+        Err(fault) => {
+            cells.truncate(had);
+            Err(fault)
+        }
+    }
 }
 
 /// Reads the whole records at the beginning of a part that was given from `place` on, and appends
@@ -104,16 +147,6 @@ pub fn read_part(
     ensures place { OnErr result (place.new ≡ place.old) }
     ensures cells { OnErr result (cells.new.items ≡ cells.old.items) }
 {
-    let had = cells.len();
-    let mut end = *place;
-    match read_records(alloc, &mut Counted::new(bytes), &mut end, schema, cells) {
-        Ok(()) => {
-            *place = end;
-            Ok(())
-        }
-        Err(fault) => {
-            cells.truncate(had);
-            Err(fault)
-        }
-    }
+    let mut end = None;
+    read_to_end(alloc, bytes, place, schema, cells, &mut end)
 }

@@ -1,5 +1,5 @@
 use Rattle.rr_replication.proofs.ReadingLemmas.{all_of_schema}
-use Rattle.rr_replication.proofs.records.read_part.Goals as goal
+use Rattle.rr_replication.proofs.records.read_to_end.Goals as goal
 
 pub returns-in-Ok-clause-of_schema : goal.returns-in-Ok-clause-of_schema
 returns-in-Ok-clause-of_schema c =
