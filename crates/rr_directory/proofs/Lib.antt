@@ -3,3 +3,4 @@ pub mod StartLemmas
 pub mod ReadingLemmas
 pub mod RaisingLemmas
 pub mod NamedOriginLemmas
+pub mod SurveyLemmas

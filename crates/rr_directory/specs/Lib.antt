@@ -4,6 +4,7 @@ pub mod Fault
 pub mod Memory
 pub mod Reading
 pub mod Opening
+pub mod Schemas
 pub mod Tail
 pub mod Recovering
 pub mod Origins

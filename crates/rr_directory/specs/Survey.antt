@@ -1,18 +1,26 @@
 -- What reading a file by itself gives.
-use Rattle.std.specs.Prelude.{◌≡◌, ℕ, ◌-◌, List, length, Option, Result, Ok, Err, if◌then◌else◌}
+use Rattle.std.specs.Prelude.{◌≡◌, ◌≢◌, ◌⊎◌, ℕ, ◌-◌, Bool, false, List, length, Option, Result, Ok, Err, if◌then◌else◌}
 use Rattle.rr_text.specs.Results.{◌>>=◌}
 use Rattle.rr_schema.specs.Schema.{Layout}
 use Rattle.rr_journal.specs.declared.cursor.Cursor.{Cursor}
 use Rattle.rr_journal.specs.Cursor.{behind_all, moved_by}
 use Rattle.rr_journal.specs.Header.{header_len}
+use Rattle.rr_cells.specs.ReplicaState.{ReplicaState}
+use Rattle.rr_journal.specs.declared.fault.JournalFault.TheVariants.{SchemaDiffers}
+use Rattle.rr_recovery.specs.Found.{nothing_found}
 use Rattle.rr_recovery.specs.Taking.{Recovery, taken_records}
 use Rattle.rr_directory.specs.declared.fault.FileFault.{FileFault}
+use Rattle.rr_directory.specs.declared.fault.FileFault.TheVariants as file
 use Rattle.rr_directory.specs.declared.name.FileName.{FileName}
+use Rattle.rr_directory.specs.declared.name.FileName.TheVariants.{Checkpoint}
 use Rattle.rr_directory.specs.declared.report.FileEnding.{FileEnding}
 use Rattle.rr_directory.specs.declared.report.FileEnding.TheVariants.{End, Torn, Damaged, Refused}
+use Rattle.rr_directory.specs.declared.report.FileReport.{FileReport}
 use Rattle.rr_directory.specs.Names.{offset_of}
-use Rattle.rr_directory.specs.Reading.{IsFileFault, as_file, bytes_before, file_records, file_stop, place_of}
+use Rattle.rr_directory.specs.Reading.{IsFileFault, as_file, bytes_before, file_records, file_stop, is_whole, place_of}
+use Rattle.rr_directory.specs.Recovering.{empty_state}
 use Rattle.rr_directory.specs.Report.{ending_of}
+use Rattle.rr_directory.specs.Schemas.{IsWholeUnder}
 use Rattle.rr_directory.specs.Tail.{is_synced_tail}
 
 -- what the records of a file make
@@ -39,3 +47,37 @@ told_ending s key name bytes (Torn len) =
     if is_synced_tail key (tail_offset s name bytes len) len bytes then Damaged (length bytes - len) else Torn len
 told_ending s key name bytes (Damaged at) = Damaged at
 told_ending s key name bytes (Refused fault) = Refused fault
+
+-- and a checkpoint that isn't whole is refused
+abbrev pub whole_ending : FileName → Bool → FileEnding → FileEnding
+whole_ending (Checkpoint offset) false End = Refused file.NotWhole
+whole_ending name whole ending = ending
+
+-- an ending, or a refusal
+abbrev pub ending_by : Result FileEnding FileFault → FileEnding
+ending_by (Ok ending) = ending
+ending_by (Err fault) = Refused fault
+
+-- the report on a file whose records are taken into a replica, unless its last bytes can't be read
+pub record Reports (s : Layout) (key : Option (List ℕ)) (name : FileName) (bytes : List ℕ) (h : ReplicaState)
+    (r : FileReport) : Type 0 where
+  pub new : Recovery
+  pub read : Result FileEnding FileFault
+  pub taken : Surveys s name bytes (record { replica = h; found = nothing_found }) new read
+  pub records : r.records ≡ new.found.records
+  pub cells : r.cells ≡ new.found.cells
+  pub ending : (r.ending ≡ Refused file.ReadFailed) ⊎ (r.ending ≡ Refused file.Memory)
+      ⊎ (r.ending ≡ whole_ending name (is_whole new.found) (told_ending s key name bytes (ending_by read)))
+
+-- the same under a schema and some origin, of which the file has nothing
+abbrev pub IsReportedUnder : Layout → Option (List ℕ) → FileName → List ℕ → FileReport → Type 0
+IsReportedUnder s key name bytes r =
+    ((origin : ℕ) × Reports s key name bytes (empty_state s origin) r)
+    ⊎ (r.ending ≡ Refused file.Memory) ⊎ (r.ending ≡ Refused file.OriginUsed)
+
+-- a file is read by itself: under the schema that its own header names, if that is whole, and if not, it isn't said to be
+-- of another schema
+abbrev pub IsReported : Option (List ℕ) → FileName → List ℕ → FileReport → Type 0
+IsReported key name bytes r =
+    ((s : Layout) × IsWholeUnder s bytes × IsReportedUnder s key name bytes r)
+    ⊎ ((fault : FileFault) × (r.ending ≡ Refused fault) × (fault ≢ file.BadHeader SchemaDiffers))

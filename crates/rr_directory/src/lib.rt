@@ -14,9 +14,10 @@
 //!
 //! Before that, [`last_origin`] goes through the journal's files among these, and [`origin_named`]
 //! reads the names of empty files that say which origins are taken, so that a node can choose an
-//! origin above all of them, which was never used. For an operator, [`survey`] reads a file by itself, under
-//! the schema that [`schema_in`] finds in a header; [`push_report`], [`push_verdict`] and
-//! [`push_cell`] add a line each: what a file has, whether the files join, and a cell.
+//! origin above all of them, which was never used. For an operator, [`survey`] reads a file by
+//! itself, under the schema that its own whole header names ([`own_schema`]), so that a damaged file
+//! blames no other; [`push_report`], [`push_verdict`] and [`push_cell`] add a line each: what a file
+//! has, whether the files join, and a cell.
 //!
 //! In `specs/` what files make of a replica is a function of their bytes, file by file
 //! (`Reading.antt`).
@@ -51,6 +52,6 @@ pub use origins::last_origin;
 pub use raising::join_raised;
 pub use recovered::{Recovered, empty_replica, recover};
 pub use report::{FileEnding, FileReport, push_report, push_verdict};
-pub use schema::{schema_in, schema_of};
+pub use schema::{any_schema, first_schema, own_refusal, own_schema, schema_in, schema_of};
 pub use start::{Start, start_of};
 pub use surveying::survey;

@@ -15,7 +15,7 @@ use std::alloc::Global;
 use std::io::Read;
 
 /// The fault of a header.
-fn header_fault(fault: JournalFault) -> FileFault
+pub(crate) fn header_fault(fault: JournalFault) -> FileFault
     ensures { result ≡ of_header fault }
 {
     match fault {
