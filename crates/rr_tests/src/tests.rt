@@ -35,3 +35,4 @@ mod seats;
 mod signals;
 mod sockets;
 mod streams;
+mod surveys;

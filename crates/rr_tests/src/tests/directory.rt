@@ -13,7 +13,7 @@ use rr_replica::Replica;
 use std::alloc::Global;
 
 /// The header of a file that begins after all four records, and of their checkpoint.
-const HEADER_167: [u8; 62] = [
+pub(super) const HEADER_167: [u8; 62] = [
     0x52, 0x52, 0x4a, 0x4e, 0x01, 0x00, 0x00, 0x0e, 0x00, 0x00, 0x00, 0x3c, 0x01, 0x01, 0x00, 0x00,
     0x00, 0x03, 0x00, 0x00, 0x00, 0x01, 0x00, 0x01, 0x02, 0x03, 0x04, 0x05, 0x06, 0x07, 0x08, 0x09,
     0x0a, 0x0b, 0x0c, 0x0d, 0x0e, 0x0f, 0x00, 0x00, 0x00, 0x00, 0x00, 0x00, 0x00, 0xa7, 0x8f, 0x4b,
@@ -21,7 +21,7 @@ const HEADER_167: [u8; 62] = [
 ];
 
 /// The records of that checkpoint: the six cells and its end.
-const CHECKPOINT: [u8; 107] = [
+pub(super) const CHECKPOINT: [u8; 107] = [
     0x00, 0x00, 0x00, 0x49, 0x81, 0x00, 0x09, 0x63, 0x70, 0x75, 0x20, 0x76, 0x61, 0x6c, 0x75, 0x65,
     0x00, 0x00, 0x00, 0x00, 0x20, 0x06, 0x80, 0xb0, 0x9d, 0xc2, 0xdf, 0x01, 0x83, 0x0a, 0xc8, 0x01,
     0x14, 0x01, 0x02, 0x87, 0x0e, 0x09, 0xe8, 0x07, 0x02, 0x01, 0x02, 0x0e, 0x03, 0x02, 0x11, 0x02,
@@ -38,7 +38,7 @@ const ORIGIN_1002: [u8; 15] = [
 
 /// What a recovery tells: how many cells are recovered, the last origin, where the journal ends and
 /// how many bytes are torn; or which file is refused, and why.
-type Told = Result<(usize, Option<Origin>, Option<u64>, u64), Refusal>;
+pub(super) type Told = Result<(usize, Option<Origin>, Option<u64>, u64), Refusal>;
 
 /// What a recovery of these files under the origin 9, with this key of their witnesses, tells.
 fn told_with(alloc: Global, files: &[MemoryFile<'_>], key: Option<Key>) -> Option<Told> {
@@ -64,7 +64,7 @@ fn told_with(alloc: Global, files: &[MemoryFile<'_>], key: Option<Key>) -> Optio
 }
 
 /// The same without a key.
-fn told(alloc: Global, files: &[MemoryFile<'_>]) -> Option<Told> {
+pub(super) fn told(alloc: Global, files: &[MemoryFile<'_>]) -> Option<Told> {
     told_with(alloc, files, None)
 }
 

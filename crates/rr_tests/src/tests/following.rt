@@ -2,7 +2,9 @@
 use super::journal::{schema, start};
 use rr_cells::Cell;
 use rr_fakes::journals::{HEADER, RECORDS};
-use rr_replication::{Following, Next, PartFault, PeerAnswer, PeerConnection, PeerFault};
+use rr_replication::{
+    Following, Next, Pace, PartFault, PeerAnswer, PeerConnection, PeerFault, Reached,
+};
 use std::alloc::Global;
 
 /// What becomes of an answer with a status and a body: what was asked for, up to which offset the
@@ -113,6 +115,103 @@ fn what_the_journal_lacks_is_taken_from_the_checkpoint(rt: HostRuntime) {
     assert_eq!(rt; next, text(alloc, b"/checkpoint?begins=0&from=77"));
     assert_eq!(rt; (all, end), (Some((Ok(None), 6)), Some((Ok(Some(0)), 0))));
     assert_eq!(rt; again, Some((Err(PeerFault::Gone), 0)));
+}
+
+/// A record behind the four: the origin 1002.
+const BEHIND_END: [u8; 15] = [
+    0x00, 0x00, 0x00, 0x02, 0x82, 0x03, 0xea, 0x9c, 0x47, 0x37, 0x86, 0xe5, 0x51, 0x1f, 0x69,
+];
+
+/// What becomes of a checkpoint with these records once the peer has no more of it, and what is
+/// asked for then.
+fn ended(
+    alloc: Global,
+    records: &[u8],
+) -> Option<(Result<Option<u64>, PeerFault>, Option<Vec<u8>>)> {
+    let mut following = Following::new(alloc, Vec::new(alloc));
+    came(alloc, &mut following, 204, &[]);
+    came(alloc, &mut following, 410, &[]);
+    came(alloc, &mut following, 200, &checkpoint(alloc, records));
+    let (ended, _) = came(alloc, &mut following, 204, &[])?;
+    Some((ended, asked(alloc, &following)))
+}
+
+#[test]
+fn a_checkpoint_is_taken_if_its_end_is_its_last_record(rt: HostRuntime) {
+    let alloc = rt.alloc();
+    let journal = text(
+        alloc,
+        b"/journal?id=000102030405060708090a0b0c0d0e0f&from=0",
+    );
+    assert_eq!(rt; ended(alloc, &RECORDS), Some((Ok(Some(0)), journal)));
+    let refused = ended(alloc, &RECORDS[..146]);
+    let newest = text(alloc, b"/checkpoint?from=0");
+    assert_eq!(rt; refused, Some((Err(PeerFault::NotWhole), newest)));
+    let mut longer = Vec::new(alloc);
+    let _four = longer.extend_from_slice(&RECORDS);
+    let _more = longer.extend_from_slice(&BEHIND_END);
+    let newest = text(alloc, b"/checkpoint?from=0");
+    assert_eq!(rt;
+        ended(alloc, &longer),
+        Some((Err(PeerFault::NotWhole), newest))
+    );
+}
+
+/// The pause after an answer that is refused.
+fn pause_after(
+    alloc: Global,
+    following: &mut Following,
+    pace: &mut Pace,
+    status: u16,
+    body: &[u8],
+) -> Option<u64> {
+    let asked = following.reached();
+    let (read, _) = came(alloc, following, status, body)?;
+    if read.is_err() {
+        return Some(pace.fail(asked));
+    }
+    pace.reach(following.reached()?);
+    None
+}
+
+/// The pauses after a peer refuses the journal's second record, and after it then has no
+/// checkpoint.
+fn two_pauses(
+    alloc: Global,
+    following: &mut Following,
+    pace: &mut Pace,
+) -> (Option<u64>, Option<u64>) {
+    pause_after(alloc, following, pace, 204, &[]);
+    pause_after(alloc, following, pace, 200, &RECORDS[..15]);
+    let record = pause_after(alloc, following, pace, 200, &RECORDS[16..]);
+    following.reconnect();
+    pause_after(alloc, following, pace, 204, &[]);
+    let checkpoint = pause_after(alloc, following, pace, 410, &[]);
+    following.reconnect();
+    (record, checkpoint)
+}
+
+#[test]
+fn a_peer_that_fails_in_two_ways_is_left_alone_for_longer(rt: HostRuntime) {
+    let alloc = rt.alloc();
+    let mut following = Following::new(alloc, Vec::new(alloc));
+    let mut pace = Pace::new();
+    for pauses in [(1, 2), (4, 8), (16, 32), (64, 64), (64, 64)] {
+        let (record, checkpoint) = pauses;
+        let found = two_pauses(alloc, &mut following, &mut pace);
+        assert_eq!(rt; found, (Some(record), Some(checkpoint)));
+    }
+}
+
+#[test]
+fn all_of_a_journal_is_unread_while_a_checkpoint_is_read(rt: HostRuntime) {
+    let lags = (
+        Reached::Journal(15).lag(167),
+        Reached::Journal(167).lag(100),
+        Reached::Checkpoint(167).lag(167),
+        Reached::Checkpoint(0).lag(0),
+    );
+    assert_eq!(rt; lags, (152, 0, 167, 1));
 }
 
 /// The status, the end and the length of the body when these bytes answer a request.
