@@ -354,7 +354,7 @@ def read_files(schema, files):
             before = readings[-1].end if readings else Cursor(reading.begins.id, 0, START_DIGEST)
             why = why_refused(schema, name, reading, before, is_last)
         except Fault as fault:
-            why = str(fault)
+            why = own_fault(files[name], str(fault))
         if why:
             raise Refused(name, why)
         readings.append(reading)
@@ -371,14 +371,19 @@ def cells_of(schema, readings):
     return joined(schema, cells)
 
 
-# The schema if the first file's header has none.
+# A schema under which a header is read that has none.
 NO_SCHEMA = Schema(1, (Archive(1, 1, 0, 1),))
 
 
-def schema_in(data):
-    """The schema in a header, whatever else is there."""
+def layout_in(data):
+    """The bytes of the schema in a header, and whether all of them are there."""
     length = int.from_bytes(data[LENGTH_AT : LENGTH_AT + 2], "big")
     layout = data[LENGTH_AT + 2 : LENGTH_AT + 2 + length]
+    return layout, len(data) >= LENGTH_AT + 2 and len(layout) == length
+
+
+def schema_of(layout):
+    """The schema with these bytes, or one that no header has."""
     if len(layout) < STEP.size or (len(layout) - STEP.size) % ARCHIVE.size:
         return NO_SCHEMA
     step, _ = STEP.unpack_from(layout)
@@ -386,9 +391,42 @@ def schema_in(data):
     return schema if schema.is_valid() and schema.bytes() == layout else NO_SCHEMA
 
 
+def own_schema(data):
+    """The schema that a file's own header names; refused if that isn't whole, but never as of another schema."""
+    layout, is_there = layout_in(data)
+    schema = schema_of(layout)
+    try:
+        read_header(schema, Input(data))
+    except Fault as fault:
+        if str(fault) == "SchemaDiffers":
+            raise Fault("BadDigest" if is_there else "Short") from fault
+        raise
+    return schema
+
+
+def first_schema(files):
+    """The schema that the first whole header names."""
+    for name in journals(files):
+        try:
+            return own_schema(files[name])
+        except Fault:
+            pass
+    return NO_SCHEMA
+
+
+def own_fault(data, why):
+    """Why a file is refused, by its own header if that isn't whole."""
+    if why == "SchemaDiffers":
+        try:
+            own_schema(data)
+        except Fault as fault:
+            return str(fault)
+    return why
+
+
 def started(files):
     """The schema of files, given by name, and what is read from them."""
-    schema = schema_in(files[journals(files)[0]])
+    schema = first_schema(files)
     return schema, read_files(schema, files)
 
 
