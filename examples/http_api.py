@@ -29,6 +29,8 @@ SENDERS, LINES_OF_ONE = 16, 1000
 # The rows of the first three minutes.
 MINUTES = "cf=LAST&resolution=60&start=0&end=180"
 
+NO_KEY = "error BadKey: key must be a key text, its tags in order\n"
+
 
 def status_of(answer):
     return int(answer.split(b" ", 2)[1]) if answer.startswith(b"HTTP/1.") else None
@@ -72,9 +74,14 @@ def fetches(node):
     csv = "boiler temp,0,U\nboiler temp,60,21\nboiler temp,120,U\n"
     check("a fetch", node.curl(f"/fetch?{MINUTES}&key=boiler%20temp"), (200, csv))
     check("with a plus", node.curl(f"/fetch?{MINUTES}&key=boiler+temp"), (200, csv))
-    check("a refusal", node.curl(f"/fetch?{MINUTES}&key=boiler"), (400, "error BadKey\n"))
-    check("a word less", node.curl("/fetch?cf=LAST"), (400, "error BadCommand\n"))
-    check("no number", node.curl("/fetch?cf=LAST&resolution=60&last=x&key=a+b"), (400, "error BadNumber\n"))
+    check("a refusal", node.curl(f"/fetch?{MINUTES}&key=boiler"), (400, NO_KEY))
+    check("tags out of order", node.curl(f"/fetch?{MINUTES}&key=boiler,b=1,a=1+v"), (400, NO_KEY))
+    lacks = {"key=a+b": "cf", "cf=LAST": "resolution", "cf=LAST&resolution=60&end=60": "start",
+             "cf=MAX&resolution=60&last=60": "key"}
+    for query, lacking in lacks.items():
+        check("a word less", node.curl(f"/fetch?{query}"), (400, f"error BadCommand: no parameter {lacking}\n"))
+    check("no number", node.curl("/fetch?cf=LAST&resolution=60&last=x&key=a+b"),
+          (400, "error BadNumber: resolution, start, end and last must be numbers in their ranges\n"))
     now = int(time.time())
     check("now", node.curl("/write", body=f"now n=7i {now}000000000\n".encode())[0], 204)
     status, text = node.curl("/fetch?cf=LAST&resolution=60&last=60&key=now+n")
@@ -88,8 +95,9 @@ def as_json(node):
     check("a fetch as JSON", node.curl(f"/fetch?{MINUTES}&key=boiler+temp&format=json"), (200, text))
     csv = node.curl(f"/fetch?{MINUTES}&key=boiler+temp")
     check("a fetch as CSV", node.curl(f"/fetch?{MINUTES}&key=boiler+temp&format=csv"), csv)
-    check("another form", node.curl(f"/fetch?{MINUTES}&key=boiler+temp&format=xml"), (400, "error BadFormat\n"))
-    check("a refusal", node.curl(f"/fetch?{MINUTES}&key=boiler&format=json"), (400, "error BadKey\n"))
+    check("another form", node.curl(f"/fetch?{MINUTES}&key=boiler+temp&format=xml"),
+          (400, "error BadFormat: format must be csv or json\n"))
+    check("a refusal", node.curl(f"/fetch?{MINUTES}&key=boiler&format=json"), (400, NO_KEY))
     check("a key of all sorts", node.curl("/write", body=b'all,q="\\a,x=\x01\xff n=-7i 60000000000\n')[0], 204)
     key = "all,q=%22%5Ca,x=%01%FF+n"
     status, text = node.curl(f"/fetch?{MINUTES}&key={key}&format=json")
@@ -113,10 +121,11 @@ def keys(node):
     check("from behind one that isn't there", listed(node, "after=many,n=009985+v&count=1"), (200, of_many[999:1000]))
     check("none left", listed(node, "after=many,n=01199+v&prefix=many"), (200, []))
     check("of another prefix", listed(node, "prefix=nobody"), (200, []))
-    check("behind no key", listed(node, "after=many"), (400, ["error BadKey"]))
-    check("too many", listed(node, "count=10001"), (400, ["error BadCount"]))
-    check("none", listed(node, "count=0"), (400, ["error BadCount"]))
-    check("no number", listed(node, "count=x"), (400, ["error BadNumber"]))
+    check("behind no key", listed(node, "after=many"),
+          (400, ["error BadKey: after must be a key text, its tags in order"]))
+    check("too many", listed(node, "count=10001"), (400, ["error BadCount: count must be from 1 to 10,000"]))
+    check("none", listed(node, "count=0"), (400, ["error BadCount: count must be from 1 to 10,000"]))
+    check("no number", listed(node, "count=x"), (400, ["error BadNumber: count must be a number below 2^64"]))
 
 
 def counts_of(node):

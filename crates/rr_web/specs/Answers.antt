@@ -24,9 +24,9 @@ form_in query = named (parameter_of query (codes "format"))
     named None = Some Csv
     named (Some name) = form_of name
 
--- the line of a refusal, as the fetch port words it
+-- the line of a refusal: the name of a fault, as on the fetch port, and what helps
 abbrev pub refusal_text : List ℕ → List ℕ
-refusal_text name = codes "error " ++ name ++ LINE_FEED ∷ []
+refusal_text fault = codes "error " ++ fault ++ LINE_FEED ∷ []
 
 -- the CSV records of a key, in a form
 abbrev pub records_reply : Form → List ℕ → List ℕ → ReplyView

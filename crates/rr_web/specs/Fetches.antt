@@ -10,7 +10,6 @@ use Rattle.rr_cells.specs.FetchText.{Request}
 use Rattle.rr_fetch.specs.declared.fault.RequestFault.{RequestFault}
 use Rattle.rr_fetch.specs.declared.fault.RequestFault.TheVariants.{BadCommand}
 use Rattle.rr_fetch.specs.Answers.{cells_text}
-use Rattle.rr_fetch.specs.Fault.{request_fault_name}
 use Rattle.rr_fetch.specs.Requests.{read}
 use Rattle.rr_fetch.specs.Words.{Parts}
 use Rattle.rr_web.specs.declared.answers.Form.{Form}
@@ -18,6 +17,7 @@ use Rattle.rr_web.specs.declared.fetches.Words.{Words}
 use Rattle.rr_web.specs.declared.reply.Status.TheVariants.{BadRequest}
 use Rattle.rr_web.specs.declared.reply.Kind.TheVariants.{Plain}
 use Rattle.rr_web.specs.Answers.{form_in, records_reply, refusal_text}
+use Rattle.rr_web.specs.Faults.{fault_in}
 use Rattle.rr_web.specs.Query.{parameter_of}
 use Rattle.rr_web.specs.Reply.{ReplyView, reply_of}
 
@@ -77,17 +77,17 @@ request_of s (Some words) = read s words
 abbrev pub request_in : Layout → List ℕ → ℤ → Result Request RequestFault
 request_in s query now = request_of s (words_in query now)
 
--- a form and a request, or the name of why there isn't one
-abbrev pub asked_by : Option Form → Result Request RequestFault → Result (Form × Request) (List ℕ)
-asked_by None request = Err (codes "BadFormat")
-asked_by (Some form) (Err fault) = Err (request_fault_name fault)
-asked_by (Some form) (Ok q) = Ok (form, q)
+-- a form and a request, or why there isn't one
+abbrev pub asked_by : List ℕ → Option Form → Result Request RequestFault → Result (Form × Request) (List ℕ)
+asked_by query None request = Err (codes "BadFormat: format must be csv or json")
+asked_by query (Some form) (Err fault) = Err (fault_in query fault)
+asked_by query (Some form) (Ok q) = Ok (form, q)
 
 -- what a query asks for
 abbrev pub asked_in : Layout → List ℕ → ℤ → Result (Form × Request) (List ℕ)
-asked_in s query now = asked_by (form_in query) (request_in s query now)
+asked_in s query now = asked_by query (form_in query) (request_in s query now)
 
 -- the reply by the cells: the rows in the form, or the refusal
 abbrev pub reply_by : Layout → Cells → Result (Form × Request) (List ℕ) → ReplyView
-reply_by s m (Err name) = reply_of BadRequest Plain (refusal_text name)
+reply_by s m (Err fault) = reply_of BadRequest Plain (refusal_text fault)
 reply_by s m (Ok (form, q)) = records_reply form q.key (cells_text s m q)

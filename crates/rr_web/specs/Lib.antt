@@ -1,5 +1,6 @@
 pub mod Ask
 pub mod Query
+pub mod Faults
 pub mod Parts
 pub mod Precision
 pub mod Reply

@@ -11,7 +11,7 @@ use Rattle.rr_web.specs.declared.series.CountFault.{CountFault}
 use Rattle.rr_web.specs.Answers.{refusal_text}
 use Rattle.rr_web.specs.Query.{parameter_of}
 use Rattle.rr_web.specs.Reply.{ReplyView, reply_of}
-use Rattle.rr_web.specs.Series.{IsNoKey, begins_with, count_fault_name, count_in, is_past, line_of, prefix_of}
+use Rattle.rr_web.specs.Series.{IsNoKey, begins_with, count_fault_text, count_in, is_past, line_of, prefix_of}
 
 -- the next keys after one, by what a reader has seen
 abbrev pub piece_of : ReaderState → Option (List ℕ) → List (List ℕ)
@@ -53,16 +53,17 @@ pub record IsKeysReply (query : List ℕ) (after : Option (List ℕ)) (count : �
   pub lines : IsListing (prefix_of query) after count old new reply.text
 
 abbrev pub IsRefused : List ℕ → ReplyView → Type 0
-IsRefused name reply = reply ≡ reply_of status.BadRequest Plain (refusal_text name)
+IsRefused fault reply = reply ≡ reply_of status.BadRequest Plain (refusal_text fault)
 
 -- the same; or a refusal, if what is named as the key isn't one
 abbrev pub IsReplyBehind : List ℕ → Option (List ℕ) → ℕ → ReaderState → ReaderState → ReplyView → Type 0
 IsReplyBehind query after count old new reply =
-    IsKeysReply query after count old new reply ⊎ (IsNoKey after × IsRefused (codes "BadKey") reply)
+    IsKeysReply query after count old new reply
+    ⊎ (IsNoKey after × IsRefused (codes "BadKey: after must be a key text, its tags in order") reply)
 
 -- the same, if the count isn't refused
 abbrev pub IsCountedReply : List ℕ → Result ℕ CountFault → ReaderState → ReaderState → ReplyView → Type 0
-IsCountedReply query (Err fault) old new reply = IsRefused (count_fault_name fault) reply
+IsCountedReply query (Err fault) old new reply = IsRefused (count_fault_text fault) reply
 IsCountedReply query (Ok count) old new reply =
     IsReplyBehind query (parameter_of query (codes "after")) count old new reply
 

@@ -11,10 +11,10 @@ use Rattle.rr_web.specs.declared.series.CountFault.{CountFault}
 use Rattle.rr_web.specs.declared.series.CountFault.TheVariants.{BadCount, BadNumber}
 use Rattle.rr_web.specs.declared.series.TheConstants.{KEYS, MAX_KEYS}
 
--- the printed name of a fault: its variant's
-abbrev pub count_fault_name : CountFault → List ℕ
-count_fault_name BadNumber = codes "BadNumber"
-count_fault_name BadCount = codes "BadCount"
+-- the printed name of a fault, which is its variant's, and what helps
+abbrev pub count_fault_text : CountFault → List ℕ
+count_fault_text BadNumber = codes "BadNumber: count must be a number below 2^64"
+count_fault_text BadCount = codes "BadCount: count must be from 1 to 10,000"
 
 -- 1 to 10,000
 abbrev pub count_at : Option ℕ → Result ℕ CountFault

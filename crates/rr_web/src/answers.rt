@@ -65,13 +65,14 @@ pub(crate) fn records_reply(
     }
 }
 
-/// The reply to a query that is refused by this name, worded as on the fetch port.
-pub(crate) fn refusal_reply(alloc: Global, name: &str) -> Result<Reply, AllocError>
+/// The reply to a query that is refused: by the name of its fault as on the fetch port, and by what
+/// helps the one who asked.
+pub(crate) fn refusal_reply(alloc: Global, fault: &str) -> Result<Reply, AllocError>
     ensures { IfOk result (λ reply. reply_view reply
-        ≡ reply_of Status.BadRequest Kind.Plain (refusal_text name.now)) }
+        ≡ reply_of Status.BadRequest Kind.Plain (refusal_text fault.now)) }
 {
     let mut text = Vec::from_slice(alloc, b"error ")?;
-    text.extend_from_slice(name.as_bytes())?;
+    text.extend_from_slice(fault.as_bytes())?;
     text.push(b'\n')?;
     Ok(Reply {
         status: Status::BadRequest,

@@ -15,6 +15,7 @@ ghost use Rattle.rr_web.specs.Query.{parameter_of};
 ghost use Rattle.rr_web.specs.Reply.{reply_view};
 
 use crate::answers::{Form, form_in, records_reply, refusal_reply};
+use crate::faults::fault_in;
 use crate::query::parameter;
 use crate::reply::Reply;
 use itoa::Buffer;
@@ -170,8 +171,8 @@ pub(crate) fn rows_reply<A: Cells>(
 
 /// The reply to the fetch that a query asks for at the second `now`: the rows of its request, in
 /// the form that it names, after the operations that the reader has seen when the call returns; or
-/// the first of these refusals to apply: `BadFormat`, for an unknown form; `BadCommand`, for a
-/// missing parameter; and those of [`read_request`]. The cost is that of [`Reader::fetch`], plus
+/// the first of these refusals to apply, with what helps behind its name: `BadFormat`, for an
+/// unknown form; `BadCommand`, for a missing parameter; and those of [`read_request`]. The cost is that of [`Reader::fetch`], plus
 /// one linear in the query.
 pub(crate) fn fetch_reply<A: Cells>(
     alloc: Global,
@@ -184,11 +185,11 @@ pub(crate) fn fetch_reply<A: Cells>(
         (asked_in reader.old.schema query.now now))) }
 {
     let Some(form) = form_in(alloc, query)? else {
-        return refusal_reply(alloc, "BadFormat");
+        return refusal_reply(alloc, "BadFormat: format must be csv or json");
     };
     match request_in(alloc, query, now, reader.schema()) {
         Ok(request) => rows_reply(alloc, form, &request, reader),
         Err(RequestFault::Memory) => Err(AllocError),
-        Err(fault) => refusal_reply(alloc, fault.name()),
+        Err(fault) => refusal_reply(alloc, fault_in(alloc, query, fault)?),
     }
 }

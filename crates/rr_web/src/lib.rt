@@ -22,6 +22,7 @@
 mod answers;
 mod ask;
 mod family;
+mod faults;
 mod fetch;
 mod fetches;
 mod fixed;

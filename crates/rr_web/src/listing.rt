@@ -108,7 +108,8 @@ fn keys_reply<A: Cells>(
 /// The reply to a query for keys: a line for each of the first `count` keys that begin with its
 /// `prefix`, in the order of their bytes, after the key of its `after` if it names one. They are
 /// those of what the reader has seen when the call returns; with a prefix they are searched piece
-/// by piece, each piece by what it has seen by then. The first of these refusals to apply is given:
+/// by piece, each piece by what it has seen by then. The first of these refusals to apply is given,
+/// with what helps behind its name:
 /// `BadNumber` and `BadCount`, for the count; and `BadKey`, for an `after` that isn't a key text.
 /// The cost is that of [`Reader::keys_after`] for the keys that are listed; with a prefix, for all
 /// after `after` up to the last one that begins with it.
@@ -122,11 +123,14 @@ pub(crate) fn series_reply<A: Cells>(
 {
     let count = match count_in(alloc, query)? {
         Ok(count) => count,
-        Err(fault) => return refusal_reply(alloc, fault.name()),
+        Err(fault) => return refusal_reply(alloc, fault.text()),
     };
     match after_in(alloc, query) {
         Ok(after) => keys_reply(alloc, query, after, count, reader),
         Err(KeyFault::Memory) => Err(AllocError),
-        Err(fault) => refusal_reply(alloc, fault.name()),
+        Err(_) => {
+            let text = "BadKey: after must be a key text, its tags in order";
+            refusal_reply(alloc, text)
+        }
     }
 }

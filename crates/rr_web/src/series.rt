@@ -4,7 +4,7 @@ ghost use Rattle.std.specs.Prelude.{◌≡◌, ◌⊎◌, ◌-◌, ◌++◌, fil
 ghost use Rattle.std.specs.List.{flat_map};
 ghost use Rattle.rr_text.specs.Text.{number_at};
 ghost use Rattle.rr_web.specs.Query.{parameter_of};
-ghost use Rattle.rr_web.specs.Series.{IsNoKey, begins_with, count_at, count_fault_name, count_in, is_past};
+ghost use Rattle.rr_web.specs.Series.{IsNoKey, begins_with, count_at, count_fault_text, count_in, is_past};
 ghost use Rattle.rr_web.specs.Series.{line_of, prefix_of};
 
 use crate::query::parameter;
@@ -33,13 +33,13 @@ pub(crate) enum CountFault {
 }
 
 impl CountFault {
-    /// The printed name.
-    pub(crate) fn name(&self) -> &'static str
-        ensures { result.now ≡ count_fault_name self.now }
+    /// The printed name, and what helps.
+    pub(crate) fn text(&self) -> &'static str
+        ensures { result.now ≡ count_fault_text self.now }
     {
         match self {
-            CountFault::BadNumber => "BadNumber",
-            CountFault::BadCount => "BadCount",
+            CountFault::BadNumber => "BadNumber: count must be a number below 2^64",
+            CountFault::BadCount => "BadCount: count must be from 1 to 10,000",
         }
     }
 }
