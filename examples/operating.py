@@ -110,7 +110,9 @@ def by_time(program, folder):
     said = node.end()
     addresses = f"lines 127.0.0.1:{LINES} fetch 127.0.0.1:{FETCH}"
     check("the start", said[1] == f"rr: version 2 origin 1 {addresses} series 0 cells 0", said)
-    check("an unknown key", said[0].endswith("node.toml: every of archive 1: this key is unknown, and ignored"), said)
+    last = config(keys).count("\n") + 1
+    unknown = f"node.toml: line {last}: every of archive 1: this key is unknown, and ignored"
+    check("an unknown key", said[0].endswith(unknown), said)
     counts = r"connections (\d+) points (\d+) samples (\d+) refused (\d+) past (\d+)"
     form = re.compile(rf"round: {counts} cells 1 pulls \d+\.\d{{3}} save \d+\.\d{{3}}")
     rounds = [found.groups() for line in said if (found := form.fullmatch(line))]

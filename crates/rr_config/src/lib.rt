@@ -28,6 +28,7 @@ mod named_key;
 mod node;
 mod origins;
 mod peers;
+mod place;
 mod remark;
 mod slow;
 mod value;

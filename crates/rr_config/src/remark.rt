@@ -4,6 +4,7 @@ use crate::command::{Command, UNKNOWN};
 use crate::fault::ConfigFault;
 use crate::named_key::{ARCHIVE_KEYS, NamedKey, archives_of, refused_key};
 use crate::peers::lost_peer;
+use crate::place::Placed;
 use crate::slow::slowest;
 use rr_document::FromToml;
 use rr_schema::{ArchiveSpec, Schema};
@@ -17,8 +18,9 @@ use toml::de::Error;
 /// each.
 ///
 /// For a refused text that is the key and the reason; for any other, each ignored key, and that
-/// there is no `lead`. A key that only `rr node` has is reported as such. The cost is that of
-/// reading the text twice.
+/// there is no `lead`. A key has its line before it, if that is found. A key that only `rr node`
+/// has is reported as such. The cost is that of reading the text twice, and once more for each key
+/// that is reported.
 pub fn remarks(alloc: Global, text: &[u8]) -> Result<Vec<String>, AllocError> {
     remarks_for(alloc, Command::Serve, text)
 }
@@ -48,7 +50,7 @@ fn push_remarks(
     text: &str,
 ) -> Result<(), AllocError> {
     match toml::table_from_str(alloc, text) {
-        Ok(table) => push_table_remarks(alloc, lines, command, &table),
+        Ok(table) => push_table_remarks(alloc, lines, command, text, &table),
         Err(error) => push_error(alloc, lines, &error),
     }
 }
@@ -75,19 +77,20 @@ fn on_one_line(alloc: Global, text: &str) -> Result<String, AllocError> {
     Ok(whole)
 }
 
-/// Adds what is told about a table.
+/// Adds what is told about the table of a text.
 fn push_table_remarks(
     alloc: Global,
     lines: &mut Vec<String>,
     command: Command,
+    text: &str,
     table: &Table,
 ) -> Result<(), AllocError> {
     match command.has_lead(alloc, table) {
         Ok(has_lead) => {
-            push_ignored(alloc, lines, command, table)?;
+            push_ignored(alloc, lines, command, text, table)?;
             if !has_lead {
-                let text = "no lead: one point from far in the future ends its series";
-                lines.push(String::from_str(alloc, text)?)?;
+                let line = "no lead: one point from far in the future ends its series";
+                lines.push(String::from_str(alloc, line)?)?;
             }
             match command {
                 Command::Serve => Ok(()),
@@ -95,7 +98,7 @@ fn push_table_remarks(
             }
         }
         Err(ConfigFault::Memory) => Err(AllocError),
-        Err(fault) => push_refusal(alloc, lines, command, table, fault),
+        Err(fault) => push_refusal(alloc, lines, command, text, table, fault),
     }
 }
 
@@ -145,15 +148,17 @@ fn push_refusal(
     alloc: Global,
     lines: &mut Vec<String>,
     command: Command,
+    text: &str,
     table: &Table,
     fault: ConfigFault,
 ) -> Result<(), AllocError> {
     let Some(named) = refused_key(alloc, command, table, fault) else {
         return Ok(lines.push(format!(in alloc; "{fault}")?)?);
     };
+    let placed = Placed::new(text, named);
     match command.bounds(named.key, fault) {
-        Some(bounds) => push_of_key(alloc, lines, named, bounds),
-        None => push_of_key(alloc, lines, named, fault),
+        Some(bounds) => push_of_key(alloc, lines, placed, bounds),
+        None => push_of_key(alloc, lines, placed, fault),
     }
 }
 
@@ -161,10 +166,10 @@ fn push_refusal(
 fn push_of_key(
     alloc: Global,
     lines: &mut Vec<String>,
-    named: NamedKey<'_>,
-    text: impl Display + Drop,
+    placed: Placed<'_>,
+    why: impl Display + Drop,
 ) -> Result<(), AllocError> {
-    lines.push(format!(in alloc; "{named}: {text}")?)?;
+    lines.push(format!(in alloc; "{placed}: {why}")?)?;
     Ok(())
 }
 
@@ -173,12 +178,14 @@ fn push_ignored(
     alloc: Global,
     lines: &mut Vec<String>,
     command: Command,
+    text: &str,
     table: &Table,
 ) -> Result<(), AllocError> {
     for key in table.keys() {
         let key = key.as_str();
         if let Some(why) = command.ignored(key) {
-            push_of_key(alloc, lines, NamedKey::above(key), why)?;
+            let placed = Placed::new(text, NamedKey::above(key));
+            push_of_key(alloc, lines, placed, why)?;
         }
     }
     let Some(archives) = archives_of(table) else {
@@ -186,7 +193,7 @@ fn push_ignored(
     };
     for (place, archive) in archives.iter().enumerate() {
         if let Some(archive) = archive.as_table() {
-            push_ignored_of_archive(alloc, lines, archive, place + 1)?;
+            push_ignored_of_archive(alloc, lines, text, archive, place + 1)?;
         }
     }
     Ok(())
@@ -196,6 +203,7 @@ fn push_ignored(
 fn push_ignored_of_archive(
     alloc: Global,
     lines: &mut Vec<String>,
+    text: &str,
     table: &Table,
     number: usize,
 ) -> Result<(), AllocError> {
@@ -206,7 +214,7 @@ fn push_ignored_of_archive(
                 key,
                 archive: Some(number),
             };
-            push_of_key(alloc, lines, named, UNKNOWN)?;
+            push_of_key(alloc, lines, Placed::new(text, named), UNKNOWN)?;
         }
     }
     Ok(())
