@@ -4,8 +4,9 @@ mod folder;
 
 use folder::Folder;
 use rr_directory::{
-    Directory, DirectoryFault, FileEnding, FileFault, FileName, FileReport, Recovered, Refusal,
-    empty_replica, push_cell, push_report, push_verdict, recover, schema_in, start_of, survey,
+    Directory, DirectoryFault, FileEnding, FileFault, FileName, Recovered, Refusal, any_schema,
+    empty_replica, first_schema, own_refusal, push_cell, push_report, push_verdict, recover,
+    start_of, survey,
 };
 use rr_files::key_in;
 use rr_io::Counted;
@@ -14,7 +15,7 @@ use rr_journal::Key;
 use rr_packed::PackedArchive;
 use rr_process::{Ending, ToolFault, file_fault};
 use rr_replica::{CellWalk, Replica};
-use rr_schema::{ArchiveSpec, Origin, Schema};
+use rr_schema::{Origin, Schema};
 use rr_words::JournalWord;
 use std::alloc::{AllocError, Global};
 use std::io;
@@ -36,21 +37,6 @@ struct StoppedNode<'a, R> {
     schema: Schema,
     /// The key of the witnesses, if there is one.
     key: Option<Key>,
-}
-
-/// A schema for a directory in which no header names one. It has no file then, or its first one is
-/// refused.
-fn any_schema(alloc: Global) -> Result<Schema, ToolFault> {
-    let archive = ArchiveSpec {
-        steps: 1,
-        rows: 1,
-        num: 0,
-        den: 1,
-    };
-    match Schema::new(alloc, 1, &[archive]) {
-        Ok(schema) => Ok(schema),
-        Err(_) => Err(ToolFault::Memory),
-    }
 }
 
 /// The fault of a run that a failed directory call ends.
@@ -79,7 +65,7 @@ fn key_of<R: Files + Eprint>(rt: &R, alloc: Global, path: &str) -> Result<Option
 }
 
 impl<'a, R: Files + Eprint> StoppedNode<'a, R> {
-    /// The files of a directory, and the schema that the first of them names.
+    /// The files of a directory, and the schema that the first whole header of them names.
     fn new(rt: &'a R, alloc: Global, path: &'a str) -> Result<StoppedNode<'a, R>, ToolFault> {
         let folder = Folder::new(rt, path);
         let names = match folder.names(alloc) {
@@ -87,16 +73,11 @@ impl<'a, R: Files + Eprint> StoppedNode<'a, R> {
             Err(fault) => return Err(directory_fault(fault)),
         };
         let files = start_of(alloc, &names)?.files;
-        let named = match files.first() {
-            None => None,
-            Some(first) => match schema_in(alloc, &folder, *first) {
-                Ok(named) => named,
-                Err(fault) => return Err(run_fault(fault).unwrap_or(ToolFault::ReadFailed)),
-            },
-        };
-        let schema = match named {
-            Some(schema) => schema,
-            None => any_schema(alloc)?,
+        let schema = match first_schema(alloc, &folder, &files) {
+            Ok(Some(schema)) => schema,
+            // There is no file, or the first one is refused.
+            Ok(None) => any_schema(alloc)?,
+            Err(fault) => return Err(run_fault(fault).unwrap_or(ToolFault::ReadFailed)),
         };
         Ok(StoppedNode {
             alloc,
@@ -105,32 +86,6 @@ impl<'a, R: Files + Eprint> StoppedNode<'a, R> {
             schema,
             key: key_of(rt, alloc, path)?,
         })
-    }
-
-    /// What a file has, read under an origin that it has nothing of.
-    fn survey(&self, name: FileName) -> Result<Option<FileReport>, AllocError> {
-        for number in (1..=u16::MAX).rev() {
-            let Ok(origin) = Origin::new(number) else {
-                continue;
-            };
-            let mut replica: Replica<PackedArchive> = empty_replica(
-                self.alloc,
-                &self.schema,
-                origin,
-            )?;
-            let report = survey(
-                self.alloc,
-                &self.folder,
-                name,
-                &self.schema,
-                self.key,
-                &mut replica,
-            );
-            if report.ending != FileEnding::Refused(FileFault::OriginUsed) {
-                return Ok(Some(report));
-            }
-        }
-        Ok(None)
     }
 
     /// What a node would have if it started under an origin that no file has anything of.
@@ -154,7 +109,9 @@ impl<'a, R: Files + Eprint> StoppedNode<'a, R> {
             ) {
                 Ok(recovered) => return Ok(Some(Ok((replica, recovered)))),
                 Err(refusal) if refusal.fault == FileFault::OriginUsed => (),
-                Err(refusal) => return Ok(Some(Err(refusal))),
+                Err(refusal) => {
+                    return Ok(Some(Err(own_refusal(self.alloc, &self.folder, refusal))));
+                }
             }
         }
         Ok(None)
@@ -163,9 +120,7 @@ impl<'a, R: Files + Eprint> StoppedNode<'a, R> {
     /// Writes a line for each file.
     fn write_reports<W: Write>(&self, output: &mut Counted<W>) -> Result<(), ToolFault> {
         for name in &self.files {
-            let Some(report) = self.survey(*name)? else {
-                continue;
-            };
+            let report = survey::<PackedArchive, _>(self.alloc, &self.folder, *name, self.key);
             if let FileEnding::Refused(fault) = report.ending
                 && let Some(fault) = run_fault(fault)
             {

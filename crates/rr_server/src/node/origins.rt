@@ -4,7 +4,9 @@ use crate::files::tell;
 use crate::node::endings::{failed, refusal_ending};
 use rr_batch::{NotNamed, OriginNames, TakenOrigin};
 use rr_config::NodeConfig;
-use rr_directory::{FileName, Refusal, Start, greatest_origin, last_origin, schema_in};
+use rr_directory::{
+    FileName, Refusal, Start, greatest_origin, last_origin, own_refusal, schema_in,
+};
 use rr_files::DataDirectory;
 use rr_process::Ending;
 use rr_schema::{Origin, Schema};
@@ -120,7 +122,10 @@ fn last_taken<R: AllocGlobal + Files + Eprint>(
     };
     match last_recorded(rt, directory, files, schema) {
         Ok(recorded) => Ok(greatest_origin(&named, recorded)),
-        Err(refusal) => Err(refusal_ending(rt, path, &refusal)),
+        Err(refusal) => {
+            let refusal = own_refusal(rt.alloc(), directory, refusal);
+            Err(refusal_ending(rt, path, &refusal))
+        }
     }
 }
 

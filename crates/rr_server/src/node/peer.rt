@@ -51,6 +51,8 @@ pub(crate) struct Peer {
     pace: Pace,
     /// Where the node was in its store when it was last called or asked.
     asked: Option<Reached>,
+    /// Where its journal ends, as last told.
+    end: Option<u64>,
 }
 
 impl Peer {
@@ -71,6 +73,7 @@ impl Peer {
             told: None,
             pace: Pace::new(),
             asked: None,
+            end: None,
         }
     }
 
@@ -113,7 +116,9 @@ impl Peer {
         let was_in_checkpoint = self.following.is_in_checkpoint();
         let mut cells = Vec::new(self.alloc);
         let next = self.following.take(answer, &self.schema, &mut cells)?;
-        if let Some(place) = self.following.reached() {
+        self.end = answer.end.or(self.end);
+        let reached = self.following.reached();
+        if let Some(place) = reached {
             self.pace.reach(place);
         }
         let link = &self.link;
@@ -126,7 +131,7 @@ impl Peer {
                 Ok(false)
             }
             Next::More { read } => {
-                standing.goes_on(lag_of(answer, read));
+                standing.goes_on(lag_at(reached, self.end));
                 if !cells.is_empty() || (was_in_checkpoint && read.is_some()) {
                     self.hand_on(rt, cells, read);
                 }
@@ -192,10 +197,11 @@ impl Peer {
     }
 }
 
-/// How many bytes of a peer's journal aren't read yet, if its answer says where it ends.
-fn lag_of(answer: &PeerAnswer, read: Option<Cursor>) -> Option<u64> {
-    let (Some(end), Some(read)) = (answer.end, read) else {
+/// How many bytes of a peer's journal aren't read yet from a place on, if it is known where that
+/// ends.
+fn lag_at(reached: Option<Reached>, end: Option<u64>) -> Option<u64> {
+    let (Some(reached), Some(end)) = (reached, end) else {
         return None;
     };
-    Some(end.saturating_sub(read.offset))
+    Some(reached.lag(end))
 }

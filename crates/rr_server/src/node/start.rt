@@ -10,7 +10,9 @@ use crate::server::OUT_OF_MEMORY;
 use rr_batch::commit_origin;
 use rr_commit::ChangesFault;
 use rr_config::NodeConfig;
-use rr_directory::{Directory, FileName, Recovered, Start, empty_replica, recover, start_of};
+use rr_directory::{
+    Directory, FileName, Recovered, Start, empty_replica, own_refusal, recover, start_of,
+};
 use rr_files::{DataDirectory, DirectoryLock, JournalFile, OpenFault, TryLock, key_in};
 use rr_journal::{Cursor, ID_LEN, KEY_LEN, Key};
 use rr_packed::PackedArchive;
@@ -113,7 +115,10 @@ fn recovered<R: AllocGlobal + Files + Eprint>(
             tell_torn(rt, path, recovered.torn);
             Ok((replica, recovered))
         }
-        Err(refusal) => Err(refusal_ending(rt, path, &refusal)),
+        Err(refusal) => {
+            let refusal = own_refusal(alloc, directory, refusal);
+            Err(refusal_ending(rt, path, &refusal))
+        }
     }
 }
 

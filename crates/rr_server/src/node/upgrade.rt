@@ -5,7 +5,7 @@ use crate::node::checkpoints::write_checkpoint_file;
 use crate::node::endings::{failed, refusal_ending};
 use crate::server::OUT_OF_MEMORY;
 use rr_desk::open;
-use rr_directory::{FileName, Refusal, empty_replica, join_raised, schema_in};
+use rr_directory::{FileName, Refusal, empty_replica, join_raised, own_schema};
 use rr_files::DataDirectory;
 use rr_journal::Cursor;
 use rr_packed::PackedArchive;
@@ -43,7 +43,8 @@ fn tell_schemas(
 }
 
 /// The schema of a directory's files, if the configuration's is that one with one archive more; any
-/// other is reported, and the file refused when it is read.
+/// other is reported, and the file refused when it is read. A first file whose header isn't whole
+/// is refused.
 pub(crate) fn older_schema<R: AllocGlobal + Files + Eprint>(
     rt: &R,
     path: &str,
@@ -54,9 +55,8 @@ pub(crate) fn older_schema<R: AllocGlobal + Files + Eprint>(
     let Some(name) = files.first() else {
         return Ok(None);
     };
-    let found = match schema_in(rt.alloc(), directory, *name) {
-        Ok(Some(found)) => found,
-        Ok(None) => return Ok(None),
+    let found = match own_schema(rt.alloc(), directory, *name) {
+        Ok(found) => found,
         Err(fault) => return Err(refusal_ending(rt, path, &Refusal { file: *name, fault })),
     };
     let Ok(bytes) = found.bytes(rt.alloc()) else {
