@@ -151,9 +151,12 @@ def counts(node):
         time.sleep(0.1)
     for name, more in (("rr_points_total", 1), ("rr_samples_total", 1), (refused, 1)):
         check(name, after[name] - before.get(name, 0), more)
-    for name in ("rr_journal_offset_bytes", *(f'rr_http_answers_total{{status="{it}"}}' for it in ("2xx", "4xx"))):
+    for name in ("rr_journal_synced_bytes", *(f'rr_http_answers_total{{status="{it}"}}' for it in ("2xx", "4xx"))):
         check(name, after[name] > before[name], True)
-    check("all of the journal is synced", after["rr_journal_synced_bytes"], after["rr_journal_offset_bytes"])
+    for fault in ("ContentCoding", "OtherPrecision"):
+        check(f"a body refused as {fault}", after[f'rr_refused_bodies_total{{fault="{fault}"}}'] > 0, True)
+    check("it holds memory", after["process_resident_memory_bytes"] > 1_000_000, True)
+    check("it started", abs(after["process_start_time_seconds"] - time.time()) < 3_600, True)
     check("what the node is", after['rr_info{version="2",origin="1"}'], 1)
     check("its archives", after['rr_archive_rows{resolution="60"}'], 2000)
 

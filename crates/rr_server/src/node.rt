@@ -34,6 +34,7 @@ mod mailbox;
 mod numbers;
 mod origins;
 mod peer;
+mod process;
 mod runtime;
 mod serving;
 mod shared;

@@ -64,19 +64,21 @@ where
         }
         let replica = first_replica(self.rt, &self.config.schema, origin, load)?;
         let listeners = Listeners::bind(self.rt, &self.config)?;
-        self.greet(&replica);
+        self.greet(&replica)?;
         Ok(self.serve_replica(replica, listeners))
     }
 
     /// Prints what it starts with, unless it is to be quiet.
-    fn greet(&self, replica: &Replica<PackedArchive>) {
+    fn greet(&self, replica: &Replica<PackedArchive>) -> Result<(), Ending> {
         if self.config.quiet {
-            return;
+            return Ok(());
         }
-        // If there is no memory for the line, or it can't be printed, the node serves all the same.
-        if let Ok(line) = greeting(self.rt.alloc(), &self.config, replica) {
-            let _printed = self.rt.eprintln(line.as_str());
-        }
+        let Ok(line) = greeting(self.rt.alloc(), &self.config, replica) else {
+            return Err(OUT_OF_MEMORY);
+        };
+        // If it can't be printed, the node serves all the same.
+        let _printed = self.rt.eprintln(line.as_str());
+        Ok(())
     }
 
     /// Opens a desk over a replica, with a reader for each fetch address, and serves with it.

@@ -36,3 +36,4 @@ mod signals;
 mod sockets;
 mod streams;
 mod surveys;
+mod web;

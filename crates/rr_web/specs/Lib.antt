@@ -17,6 +17,8 @@ pub mod Response
 pub mod Family
 pub mod Numbers
 pub mod PeerMetrics
+pub mod Bodies
+pub mod Process
 pub mod NodeMetrics
 pub mod Fixed
 pub mod Listing

@@ -3,6 +3,7 @@ use Rattle.std.specs.Prelude.{◌≡◌, ℕ, ◌*◌, List, [], ◌∷◌, ◌+
 use Rattle.std.specs.List.{flat_map}
 use Rattle.rr_schema.specs.declared.archive.ArchiveSpec.{ArchiveSpec}
 use Rattle.rr_schema.specs.Schema.{Layout}
+use Rattle.rr_web.specs.declared.bodies.RefusedBodies.{RefusedBodies}
 use Rattle.rr_web.specs.declared.family.Amount.{Amount}
 use Rattle.rr_web.specs.declared.family.Amount.TheVariants.{Whole, Thousandths}
 use Rattle.rr_web.specs.declared.family.Family.{Family}
@@ -11,6 +12,7 @@ use Rattle.rr_web.specs.declared.node_metrics.AnswerCounts.{AnswerCounts}
 use Rattle.rr_web.specs.declared.node_metrics.ArchiveRows.{ArchiveRows}
 use Rattle.rr_web.specs.declared.node_metrics.NodeMetrics.{NodeMetrics}
 use Rattle.rr_web.specs.declared.node_metrics.RefusedLines.{RefusedLines}
+use Rattle.rr_web.specs.declared.process.ProcessNumbers.{ProcessNumbers}
 use Rattle.rr_web.specs.Family.{SampleView, family_text, family_view}
 use Rattle.rr_web.specs.Numbers.{Numbers, family_of, numbers_in}
 use Rattle.rr_web.specs.PeerMetrics.{peer_families}
@@ -67,6 +69,12 @@ refused_sample refused = labelled (codes "fault") refused.fault.items refused.li
 abbrev pub refused_samples : List RefusedLines → List SampleView
 refused_samples refused = map refused_sample refused
 
+abbrev pub body_samples : RefusedBodies → List SampleView
+body_samples bodies =
+    labelled (codes "fault") (codes "ContentCoding") bodies.coding
+    ∷ labelled (codes "fault") (codes "OtherPrecision") bodies.precision
+    ∷ labelled (codes "fault") (codes "NoOrigin") bodies.origin ∷ []
+
 abbrev pub answer_samples : AnswerCounts → List SampleView
 answer_samples answers =
     labelled (codes "status") (codes "2xx") answers.done ∷ labelled (codes "status") (codes "4xx") answers.refused
@@ -76,6 +84,11 @@ abbrev pub about_families : NodeMetrics → List Numbers
 about_families m =
     family_of Gauge (codes "rr_info") (info_samples m.version.now m.origin)
     ∷ family_of Gauge (codes "rr_archive_rows") (archive_samples m.archives.items) ∷ []
+
+abbrev pub process_families : ProcessNumbers → List Numbers
+process_families p =
+    optional (codes "process_start_time_seconds") (option_map Whole p.started)
+    ∷ optional (codes "process_resident_memory_bytes") (option_map Whole p.resident) ∷ []
 
 abbrev pub store_families : NodeMetrics → List Numbers
 store_families m = gauge (codes "rr_series") (Whole m.series) ∷ gauge (codes "rr_cells") (Whole m.cells) ∷ []
@@ -91,12 +104,12 @@ abbrev pub line_families : NodeMetrics → List Numbers
 line_families m =
     counter (codes "rr_points_total") (Whole m.points) ∷ counter (codes "rr_samples_total") (Whole m.samples)
     ∷ family_of Counter (codes "rr_refused_total") (refused_samples m.refused.items)
+    ∷ family_of Counter (codes "rr_refused_bodies_total") (body_samples m.refused_bodies)
     ∷ counter (codes "rr_past_horizon_total") (Whole m.past_horizon) ∷ []
 
 abbrev pub journal_families : NodeMetrics → List Numbers
 journal_families m =
-    gauge (codes "rr_journal_offset_bytes") (Whole m.journal_offset)
-    ∷ gauge (codes "rr_journal_synced_bytes") (Whole m.journal_synced)
+    gauge (codes "rr_journal_synced_bytes") (Whole m.journal_synced)
     ∷ optional (codes "rr_journal_sync_age_seconds") (option_map Thousandths m.journal_sync_age)
     ∷ counter (codes "rr_journal_failed_appends_total") (Whole m.failed_appends) ∷ []
 
@@ -108,8 +121,8 @@ checkpoint_families m =
 -- what the families of a node say besides their help
 abbrev pub metrics_of : NodeMetrics → List Numbers
 metrics_of m =
-    about_families m ++ store_families m ++ connection_families m ++ line_families m ++ journal_families m
-    ++ checkpoint_families m ++ peer_families m.peers.items
+    about_families m ++ process_families m.process ++ store_families m ++ connection_families m ++ line_families m
+    ++ journal_families m ++ checkpoint_families m ++ peer_families m.peers.items
 
 abbrev pub families_text : List Family → List ℕ
 families_text families = flat_map (λ f. family_text (family_view f)) families

@@ -10,6 +10,7 @@
 //! what a peer is given ── part_response ──> a response
 //! request that writes ── refused_write ──> a Reply, or none: then its lines are to be taken
 //! refusals and report of lines ── write_reply ──> Reply
+//! replies to bodies refused whole ── RefusedBodies::count ──> their numbers
 //! numbers of a node ── metrics_text ──> the text form of Prometheus
 //! Reply ── response_of ──> an HTTP response
 //! ```
@@ -21,6 +22,7 @@
 
 mod answers;
 mod ask;
+mod bodies;
 mod family;
 mod faults;
 mod fetch;
@@ -34,6 +36,7 @@ mod page;
 mod parts;
 mod peer_metrics;
 mod precision;
+mod process;
 mod query;
 mod read;
 mod refusals;
@@ -49,12 +52,14 @@ mod texts;
 mod writes;
 
 pub use ask::{Ask, asked_by};
+pub use bodies::RefusedBodies;
 pub use fetch::{Fetch, fetch_of};
 pub use node_metrics::{
     AnswerCounts, ArchiveRows, NodeMetrics, RefusedLines, archive_rows, metrics_text,
 };
 pub use parts::{Given, JournalPlace, PartQuery, part_query, part_response};
 pub use peer_metrics::PeerNumbers;
+pub use process::{ProcessNumbers, resident_bytes};
 pub use read::read_reply;
 pub use refusals::{put_off_write, refused_write};
 pub use reply::Reply;

@@ -8,8 +8,10 @@ ghost use Rattle.rr_web.specs.NodeMetrics.{journal_families, line_families, metr
 ghost use Rattle.rr_web.specs.NodeMetrics.{rows_of, store_families};
 ghost use Rattle.rr_web.specs.Numbers.{family_of, numbers_in};
 
+use crate::bodies::{RefusedBodies, body_samples};
 use crate::family::{Amount, Family, FamilyKind, Sample, push_family};
 use crate::peer_metrics::{PeerNumbers, push_peers};
+use crate::process::{ProcessNumbers, push_process};
 use crate::samples::{
     answer_samples, archive_samples, info_samples, refused_samples, samples_of, seconds, single,
     whole,
@@ -53,6 +55,8 @@ pub struct NodeMetrics {
     pub version: &'static str,
     /// The origin of the node's samples, once it is taken.
     pub origin: Option<u64>,
+    /// What the system says of its process.
+    pub process: ProcessNumbers,
     /// The rows of each archive.
     pub archives: Vec<ArchiveRows>,
     /// The series that are held.
@@ -73,11 +77,11 @@ pub struct NodeMetrics {
     pub samples: u64,
     /// The lines that were refused, by fault.
     pub refused: Vec<RefusedLines>,
+    /// The bodies that were refused whole, by fault.
+    pub refused_bodies: RefusedBodies,
     /// The samples that no archive kept.
     pub past_horizon: u64,
-    /// The offset in bytes up to which the journal is written.
-    pub journal_offset: u64,
-    /// The offset in bytes up to which it is synced.
+    /// The offset in bytes up to which the journal is synced. Nothing written is kept unsynced.
     pub journal_synced: u64,
     /// The milliseconds since the last sync, if there was one.
     pub journal_sync_age: Option<u64>,
@@ -164,7 +168,7 @@ fn push_counter(
 }
 
 /// Adds a family of a number that may not exist yet.
-fn push_optional(
+pub(crate) fn push_optional(
     alloc: Global,
     families: &mut Vec<Family>,
     name: &'static [u8],
@@ -271,6 +275,15 @@ fn push_lines(
         help,
         refused,
     )?;
+    let bodies = body_samples(alloc, metrics.refused_bodies)?;
+    let help = b"The bodies that were refused whole, by the name of their fault.";
+    push(
+        families,
+        FamilyKind::Counter,
+        b"rr_refused_bodies_total",
+        help,
+        bodies,
+    )?;
     let help = b"The samples that no archive kept, being older than its rows.";
     push_counter(
         alloc,
@@ -290,9 +303,6 @@ fn push_journal(
     ensures { OnOk result (map numbers_in families.new.items
         ≡ map numbers_in families.old.items ++ journal_families metrics.now) }
 {
-    let help = b"The offset up to which the journal is written.";
-    let offset = metrics.journal_offset;
-    push_gauge(alloc, families, b"rr_journal_offset_bytes", help, offset)?;
     let help = b"The offset up to which the journal is synced.";
     let synced = metrics.journal_synced;
     push_gauge(alloc, families, b"rr_journal_synced_bytes", help, synced)?;
@@ -333,6 +343,7 @@ fn families_of(alloc: Global, metrics: &NodeMetrics) -> Result<Vec<Family>, Allo
 {
     let mut families = Vec::new(alloc);
     push_about(alloc, &mut families, metrics)?;
+    push_process(alloc, &mut families, metrics.process)?;
     push_store(alloc, &mut families, metrics)?;
     push_connections(alloc, &mut families, metrics)?;
     push_lines(alloc, &mut families, metrics)?;

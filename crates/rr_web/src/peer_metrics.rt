@@ -18,7 +18,7 @@ pub struct PeerNumbers {
     pub up: u64,
     /// How many bytes of the peer's journal aren't read yet, as far as known.
     pub lag_bytes: u64,
-    /// The milliseconds since all of it was read.
+    /// The milliseconds since all of it was read; 0 while all is.
     pub lag: u64,
     /// 1 if the peer has samples of this node's own origin that this node never wrote, else 0.
     pub own_origin: u64,
@@ -102,7 +102,7 @@ pub(crate) fn push_peers(
         bytes,
     )?;
     let lag = peer_samples(alloc, PeerNumber::Lag, peers)?;
-    let help = b"The time since all of a peer's journal was read.";
+    let help = b"The time since all of a peer's journal was read; 0 while all is.";
     push(
         families,
         FamilyKind::Gauge,

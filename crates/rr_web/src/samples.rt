@@ -93,6 +93,14 @@ pub(crate) fn refused_samples(
     Ok(samples)
 }
 
+/// A sample of the bodies that were refused for one reason.
+pub(crate) fn fault_sample(alloc: Global, fault: &[u8], number: u64) -> Result<Sample, AllocError>
+    ensures { IfOk result (λ sample. sample_view sample
+        ≡ labelled (codes "fault") fault.now number) }
+{
+    labelled(alloc, b"fault", Vec::from_slice(alloc, fault)?, number)
+}
+
 /// A sample of the answers of one class.
 fn answer_sample(alloc: Global, class: &[u8], number: u64) -> Result<Sample, AllocError>
     ensures { IfOk result (λ sample. sample_view sample

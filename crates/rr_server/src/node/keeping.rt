@@ -268,6 +268,7 @@ impl<F: Write + Seek + OpenFile + Drop> Keeping<F> {
         self.take_origin(rt, path, &items)?;
         let (alloc, taken) = (self.alloc, self.origins.taken);
         let batch = take_all(rt, alloc, taken, &mut self.writer, items, keeper, clock)?;
+        self.numbers.count_bodies(&batch);
         let Answers { answers, is_saved } = self.commit(rt, keeper, batch)?;
         self.is_saved = is_saved;
         self.shared.is_synced_to(self.logbook.cursor.offset);

@@ -16,6 +16,8 @@ pub(crate) struct Standing {
     is_own: AtomicBool,
     /// How many bytes of its journal aren't read yet.
     lag: AtomicU64,
+    /// Whether all of it was read, at the last answer.
+    is_all_read: AtomicBool,
     /// When all of it was last read, or this node began.
     read: Mutex<Option<Instant>>,
 }
@@ -27,6 +29,7 @@ impl Standing {
             is_up: AtomicBool::new(false),
             is_own: AtomicBool::new(false),
             lag: AtomicU64::new(0),
+            is_all_read: AtomicBool::new(false),
             read: Mutex::new(Instant::now(clock).ok()),
         }
     }
@@ -34,6 +37,7 @@ impl Standing {
     /// Notes that the peer can't be followed.
     pub(crate) fn is_down(&self) {
         self.is_up.store(false, Ordering::SeqCst);
+        self.is_all_read.store(false, Ordering::SeqCst);
     }
 
     /// Notes that the peer has samples of this node's own origin.
@@ -47,9 +51,11 @@ impl Standing {
         self.is_own.load(Ordering::SeqCst)
     }
 
-    /// Notes that an answer was taken, and how many bytes aren't read yet, if that is known.
+    /// Notes that an answer was taken which isn't the last, and how many bytes aren't read yet, if
+    /// that is known.
     pub(crate) fn goes_on(&self, lag: Option<u64>) {
         self.is_up.store(true, Ordering::SeqCst);
+        self.is_all_read.store(false, Ordering::SeqCst);
         if let Some(lag) = lag {
             self.lag.store(lag, Ordering::SeqCst);
         }
@@ -59,10 +65,14 @@ impl Standing {
     pub(crate) fn is_read<R: Wait + Clock>(&self, rt: &R) {
         self.goes_on(Some(0));
         *self.read.lock(rt) = Instant::now(rt).ok();
+        self.is_all_read.store(true, Ordering::SeqCst);
     }
 
-    /// The milliseconds since all was read.
+    /// The milliseconds since all was read; 0 while all is.
     fn age<R: Wait + Clock>(&self, rt: &R) -> u64 {
+        if self.is_all_read.load(Ordering::SeqCst) {
+            return 0;
+        }
         let read = self.read.lock(rt);
         match &*read {
             Some(read) => {

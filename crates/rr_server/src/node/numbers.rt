@@ -1,15 +1,19 @@
 //! The numbers of a node, for those who watch it.
 
 use crate::node::arrivals::Arrivals;
+use crate::node::process::resident;
 use crate::node::shared::{Answered, Shared};
-use rr_batch::Writer;
+use rr_batch::{Pending, Waiting, Writer};
 use rr_command_line::VERSION;
 use rr_desk::Keeper;
 use rr_node::Report;
 use rr_packed::PackedArchive;
 use rr_schema::Origin;
-use rr_web::{AnswerCounts, NodeMetrics, archive_rows, metrics_text};
+use rr_web::{
+    AnswerCounts, NodeMetrics, ProcessNumbers, RefusedBodies, archive_rows, metrics_text,
+};
 use std::alloc::{AllocError, Global};
+use std::rt::Files;
 use std::sync::Wait;
 use std::sync::atomic::Ordering;
 use std::time::{Clock, Duration, Instant};
@@ -23,8 +27,11 @@ const CELLS_SHARE: u32 = 1_000;
 /// What a keeper remembers for the numbers of its node.
 #[derive(Drop)]
 pub(crate) struct Numbers {
+    /// The second since 1970 in which the node started, if its clock could be read.
+    started: Option<u64>,
     /// The origin of the node's samples, once it is taken.
     origin: Option<Origin>,
+    refused_bodies: RefusedBodies,
     failed_appends: u64,
     cells: usize,
     /// When cells were last counted, where the journal ended then, and how long until they are
@@ -51,10 +58,12 @@ fn age(clock: &impl Clock, since: &Instant) -> u64 {
 }
 
 impl Numbers {
-    /// The numbers of a node that has just begun.
-    pub(crate) fn new() -> Numbers {
+    /// The numbers of a node that has just begun, in this second since 1970.
+    pub(crate) fn new(started: Option<u64>) -> Numbers {
         Numbers {
+            started,
             origin: None,
+            refused_bodies: RefusedBodies::new(),
             failed_appends: 0,
             cells: 0,
             counted: None,
@@ -68,6 +77,15 @@ impl Numbers {
     /// Notes that the origin of the node's samples is taken.
     pub(crate) fn has_origin(&mut self, origin: Origin) {
         self.origin = Some(origin);
+    }
+
+    /// Counts the bodies of a batch that were refused whole.
+    pub(crate) fn count_bodies(&mut self, batch: &[Waiting]) {
+        for waiting in batch {
+            if let Pending::Decided(reply) = &waiting.pending {
+                self.refused_bodies.count(reply);
+            }
+        }
     }
 
     /// Counts an append that failed.
@@ -118,7 +136,7 @@ impl Numbers {
     }
 
     /// The numbers as they stand.
-    fn metrics<R: Wait + Clock>(
+    fn metrics<R: Files + Wait + Clock>(
         &self,
         rt: &R,
         alloc: Global,
@@ -136,6 +154,10 @@ impl Numbers {
                 Some(origin) => Some(u64::from(origin.get())),
                 None => None,
             },
+            process: ProcessNumbers {
+                started: self.started,
+                resident: resident(rt),
+            },
             archives: archive_rows(alloc, keeper.schema())?,
             series: shared.series.load(Ordering::SeqCst),
             cells: self.cells as u64,
@@ -150,8 +172,8 @@ impl Numbers {
             points: tally.points,
             samples: tally.samples,
             refused: writer.refused().to_lines()?,
+            refused_bodies: self.refused_bodies,
             past_horizon: keeper.past_horizon(),
-            journal_offset: offset,
             journal_synced: offset,
             journal_sync_age: match &self.synced {
                 Some(synced) => Some(age(rt, synced)),
@@ -171,7 +193,7 @@ impl Numbers {
     }
 
     /// Posts the numbers, at most once a second.
-    pub(crate) fn post<R: Wait + Clock>(
+    pub(crate) fn post<R: Files + Wait + Clock>(
         &mut self,
         rt: &R,
         alloc: Global,

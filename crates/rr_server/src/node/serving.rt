@@ -9,6 +9,7 @@ use crate::node::arrivals::Arrivals;
 use crate::node::keeping::Keeping;
 use crate::node::listening::listen;
 use crate::node::numbers::Numbers;
+use crate::node::process::second_of;
 use crate::node::runtime::ThreadRuntime;
 use crate::node::shared::Shared;
 use crate::node::start::{Beginning, Started, open_directory, start};
@@ -31,14 +32,20 @@ use std::rt::Files;
 use std::thread::join_mut;
 
 /// Prints what a node starts with, unless it is to be quiet.
-fn greet(rt: &(impl AllocGlobal + Eprint), config: &NodeConfig, replica: &Replica<PackedArchive>) {
+fn greet(
+    rt: &(impl AllocGlobal + Eprint),
+    config: &NodeConfig,
+    replica: &Replica<PackedArchive>,
+) -> Result<(), Ending> {
     if config.quiet {
-        return;
+        return Ok(());
     }
-    // If there is no memory for the line, or it can't be printed, the node serves all the same.
-    if let Ok(line) = node_greeting(rt.alloc(), config, replica) {
-        let _printed = rt.eprintln(line.as_str());
-    }
+    let Ok(line) = node_greeting(rt.alloc(), config, replica) else {
+        return Err(OUT_OF_MEMORY);
+    };
+    // If it can't be printed, the node serves all the same.
+    let _printed = rt.eprintln(line.as_str());
+    Ok(())
 }
 
 /// Serves with a keeper, and with workers on threads of their own, until one ends.
@@ -96,18 +103,18 @@ fn serve_keeper<R: AllocGlobal + Files + ThreadRuntime>(
         workers: served.workers(reactor, readers, &links, &cursors)?,
         shared: shared.share()?,
     };
+    let clock = &mut SystemClock::behind(rt);
     let mut keeping = Keeping {
         alloc,
         writer: Writer::new(alloc, config.precision, config.lead),
         logbook,
         origins,
         spare,
-        numbers: Numbers::new(),
+        numbers: Numbers::new(second_of(clock)),
         shared: shared.share()?,
         arrivals: Arrivals::new(alloc, links, cursors)?,
         is_saved: true,
     };
-    let clock = &mut SystemClock::behind(rt);
     let (keeping, workers) = (&mut keeping, &mut workers);
     Ok(serve_all(rt, path, keeper, clock, keeping, workers, &shared))
 }
@@ -132,11 +139,11 @@ fn serve_started<R: AllocGlobal + Files + ThreadRuntime>(
 }
 
 /// Serves as a node from a directory, which begins with a snapshot if one is named. The
-/// configuration, the directory's lock, the addresses, which are tried, recovery, and the listeners
-/// come in this order; the first fault ends it.
+/// configuration in a file, the directory's lock, the addresses, which are tried, recovery, and the
+/// listeners come in this order; the first fault ends it.
 pub(crate) fn serve_node_of<R>(
     rt: &R,
-    config: &str,
+    file: &str,
     path: &str,
     load: Option<&str>,
 ) -> Result<Ending, Ending>
@@ -144,14 +151,14 @@ where
     R: AllocGlobal + Files + Net + RandomSource + ThreadRuntime,
     R::File: TryLock,
 {
-    let config = read_node_config(rt, config)?;
+    let config = read_node_config(rt, file)?;
     let (directory, lock) = open_directory(rt, path)?;
     // They are let go of while the directory is read: a request that waited meanwhile could be given
     // up, sent again, and then taken twice.
-    drop(listen(rt, &config)?);
+    drop(listen(rt, file, &config)?);
     let started = start(rt, &config, &directory, load)?;
-    let reactor = listen(rt, &config)?;
-    greet(rt, &config, &started.replica);
+    let reactor = listen(rt, file, &config)?;
+    greet(rt, &config, &started.replica)?;
     let ending = serve_started(rt, &config, path, started, reactor);
     drop(lock);
     match ending {

@@ -5,4 +5,4 @@ use Rattle.rr_web.proofs.node_metrics.push_journal.Goals as goal
 pub returns : goal.returns
 returns c =
     simp append_assoc at
-    (rw (c.in_ok-push_optional.ensures, c.in_ok-push_gauge-2.ensures, c.in_ok-push_gauge.ensures, c.seconds-age.ensures) at c.push_counter.ensures)
+    (rw (c.in_ok-push_optional.ensures, c.in_ok-push_gauge.ensures, c.seconds-age.ensures) at c.push_counter.ensures)
